@@ -1,0 +1,3 @@
+-- The regulator and its curve, in 01's words.
+pub mod Regulator
+pub mod Curve

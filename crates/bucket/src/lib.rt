@@ -1,0 +1,43 @@
+// The regulator of a flow: a token bucket by value. Rests on laws.
+ghost use mathlib.Core.Path.{_≡_};
+ghost use Prim.Native.Nat.{_<_, _≤_};
+ghost use Rattle.bucket.specs.Regulator.{afterSpend, afterCount};
+
+pub struct Bucket {
+    pub tokens: u32,
+    pub count: u32,
+}
+
+impl Bucket {
+    // The bucket after an entry.
+    pub fn spend(self) -> Bucket
+        requires { ⌜ 1 ≤ self .tokens ⌝ }
+        ensures { λ r. ⌜ r ≡ afterSpend self ⌝ }
+    {
+        Bucket {
+            tokens: self.tokens - 1,
+            count: self.count,
+        }
+    }
+
+    // The bucket after the counter has run for a cycle.
+    pub fn count(self, burst: u32, period: u32) -> Bucket
+        requires { ⌜ self .count < period ⌝ }
+        ensures { λ r. ⌜ r ≡ afterCount burst period self ⌝ }
+    {
+        if self.tokens < burst {
+            let next = self.count + 1;
+            if next == period {
+                return Bucket {
+                    tokens: self.tokens + 1,
+                    count: 0,
+                };
+            }
+            return Bucket {
+                tokens: self.tokens,
+                count: next,
+            };
+        }
+        self
+    }
+}

@@ -1,0 +1,3 @@
+-- A flow and a plan, in 01's words.
+pub mod Offsets
+pub mod Plan

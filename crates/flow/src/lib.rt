@@ -1,0 +1,49 @@
+// A flow's plan numbers, its offsets on the torus and its port. Rests on laws and torus.
+ghost use mathlib.Core.Path.{_≡_};
+ghost use Prim.Native.Nat.{_<_};
+ghost use Rattle.flow.specs.Offsets.{ΔX, ΔY, portOf};
+
+// The six plan numbers of a flow, in record order: source, destination, period P and burst σ.
+pub struct Flow {
+    pub xs: u32,
+    pub ys: u32,
+    pub xd: u32,
+    pub yd: u32,
+    pub period: u32,
+    pub burst: u32,
+}
+
+// The router output by which a flow's packets enter.
+pub enum Port {
+    East,
+    South,
+}
+
+impl Flow {
+    // ΔX, on a torus of sx columns.
+    pub fn offset_x(self, sx: u32) -> u32
+        requires { ⌜ (self .xs < sx) × (self .xd < sx) ⌝ }
+        ensures { λ r. ⌜ r ≡ ΔX sx self ⌝ }
+    {
+        torus::offset(sx, self.xs, self.xd)
+    }
+
+    // ΔY, on a torus of sy rows.
+    pub fn offset_y(self, sy: u32) -> u32
+        requires { ⌜ (self .ys < sy) × (self .yd < sy) ⌝ }
+        ensures { λ r. ⌜ r ≡ ΔY sy self ⌝ }
+    {
+        torus::offset(sy, self.ys, self.yd)
+    }
+
+    pub fn port(self, sx: u32) -> Port
+        requires { ⌜ (self .xs < sx) × (self .xd < sx) ⌝ }
+        ensures { λ r. ⌜ r ≡ portOf sx self ⌝ }
+    {
+        let dx = self.offset_x(sx);
+        if 0 < dx {
+            return Port::East;
+        }
+        Port::South
+    }
+}

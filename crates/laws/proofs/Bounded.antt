@@ -1,0 +1,43 @@
+-- Laws of bounded tests, sums and tabulated lists. Rests on specs/Bounded.
+use mathlib.Core.Bool.{Bool, true, false, _&&_, _||_}
+use mathlib.Core.List.{List, [], _∷_, _++_}
+use mathlib.Core.Logic.{inl, inr}
+use mathlib.Core.Path.{_≡_, refl, sym, ap, _∙_}
+use Prim.Native.Nat.{ℕ, zero, suc, _+_, _≤_, _<_}
+use native.Mathlib.Nat.{eq-or-lt-of-le, le-of-suc-le-suc, add-le-add}
+use native.Mathlib.Numerals.{add-one}
+use native.Mathlib.Omega.{arith}
+use lib.ListN.{length, getD, length-append, List·getD-append}
+use lib.Seq.{getD-at, ext-getD}
+use Rattle.laws.specs.Bounded.{allBelow, anyBelow, sumBelow, tabulate}
+use Rattle.laws.proofs.Cases.{and-true}
+
+pub all-none : (p : ℕ → Bool) → allBelow 0 p ≡ true
+unfolding allBelow
+all-none p = refl
+
+pub all-more : (p : ℕ → Bool) (n : ℕ) → allBelow n p ≡ true → p n ≡ true → allBelow (n + 1) p ≡ true
+unfolding allBelow
+all-more p n h here = rw (add-one, h, here)
+
+pub all-at : (p : ℕ → Bool) (n : ℕ) → allBelow n p ≡ true → (i : ℕ) → i < n → p i ≡ true
+unfolding allBelow
+all-at p zero h i l = absurd (omega arith)
+all-at p (suc n) h i l =
+    let e = and-true (allBelow n p) (p n) h in
+    elim (eq-or-lt-of-le (le-of-suc-le-suc l)) [ inl same ↦ rw same (e .1) | inr below ↦ all-at p n (e .0) i below ]
+
+pub all-intro : (p : ℕ → Bool) (n : ℕ) → ((i : ℕ) → i < n → p i ≡ true) → allBelow n p ≡ true
+unfolding allBelow
+all-intro p zero h = refl
+all-intro p (suc n) h = rw (all-intro p n (λ i l. h i (omega arith)), h n (omega arith))
+
+pub all-fails : (p : ℕ → Bool) (n i : ℕ) → i < n → p i ≡ false → allBelow n p ≡ false
+unfolding allBelow
+all-fails p zero i l e = absurd (omega arith)
+all-fails p (suc n) i l e =
+    elim (eq-or-lt-of-le (le-of-suc-le-suc l)) [ inl same ↦ last (allBelow n p) (p n) (rw (← same) e) | inr below ↦ rw (all-fails p n i below e) ]
+  where
+    last : (a b : Bool) → b ≡ false → a && b ≡ false
+    last true b h = h
+    last false b h = refl

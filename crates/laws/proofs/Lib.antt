@@ -1,0 +1,4 @@
+-- The laws: what the code's tests tell, bounded tests and sums, and loops.
+pub mod Cases
+pub mod Bounded
+pub mod Turns

@@ -1,0 +1,3 @@
+-- Bounded tests, sums and repeated steps: definitions that know nothing of the project.
+pub mod Bounded
+pub mod Turns

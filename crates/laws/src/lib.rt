@@ -1,0 +1,1 @@
+// Lemmas on tests, sums, counts and loops that know nothing of the project: no code, only specs/ and proofs/.

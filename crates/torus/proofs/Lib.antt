@@ -1,0 +1,2 @@
+-- The laws of the ring, over every size.
+pub mod Ring

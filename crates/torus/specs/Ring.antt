@@ -1,0 +1,12 @@
+-- One row or column of the torus: `size` places in a ring (01, Torus and plan file).
+use mathlib.Core.Bool.{cond}
+use Prim.Native.Nat.{ℕ, _+_, _-_, _%_}
+use lib.Dec.{eqb}
+
+-- (to − from) mod size, of two places below the size
+unfoldable pub offset : ℕ → ℕ → ℕ → ℕ
+offset size from to = (to + size - from) % size
+
+-- the next column east, or the next row south: after the last comes 0
+unfoldable pub next : ℕ → ℕ → ℕ
+next size at = cond (eqb (at + 1) size) 0 (at + 1)

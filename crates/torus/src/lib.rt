@@ -1,0 +1,24 @@
+// The torus: offsets and neighbours along one row or column. Rests on laws.
+ghost use mathlib.Core.Path.{_≡_};
+ghost use Prim.Native.Nat.{_<_, _≤_};
+ghost use Rattle.torus.specs.Ring.{offset, next};
+
+// How far `to` lies after `from`, going round: 01's (to − from) mod size.
+pub fn offset(size: u32, from: u32, to: u32) -> u32
+    requires { ⌜ (from < size) × (to < size) ⌝ }
+    ensures { λ r. ⌜ r ≡ offset size from to ⌝ }
+{
+    if from <= to {
+        to - from
+    } else {
+        size - (from - to)
+    }
+}
+
+// The neighbour to the east of a column, or to the south of a row.
+pub fn next(size: u32, at: u32) -> u32
+    requires { ⌜ at < size ⌝ }
+    ensures { λ r. ⌜ r ≡ next size at ⌝ }
+{
+    if at + 1 == size { 0 } else { at + 1 }
+}

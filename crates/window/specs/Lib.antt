@@ -1,0 +1,4 @@
+-- Windows and flights, in 01's words.
+pub mod Conflict
+pub mod Window
+pub mod Flight
