@@ -1,0 +1,3 @@
+-- The laws of plan files.
+pub mod Refusals
+pub mod Accepted
