@@ -46,7 +46,8 @@ framed t len e =
       sy-ok = size-ok (t .sy) (both .1);
       count-least = omega arith;
       count-most = ltb-false mostFlows (t .count) (none .1);
-      ends = eqb-true _ _ (not-false _ (start .0)) }
+      ends = eqb-true _ _ (not-false _ (start .0));
+    }
 
 -- a file whose refusals 1 to 5 don't apply
 pub record Trailed (file : List ℕ) : Type 0 where
@@ -65,7 +66,8 @@ trailed file e =
       long = ltb-false _ _ (both .0);
       most = ltb-false _ _ (both .1);
       tag-ok = not-false _ (tags .0);
-      frame = framed (trailerOf file) (length file) (tags .1) }
+      frame = framed (trailerOf file) (length file) (tags .1);
+    }
 
 pub done-trailed : (file : List ℕ) (v : ℕ) → planAnswer file ≡ Done v → Trailed file
 unfolding planAnswer

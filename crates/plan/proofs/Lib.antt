@@ -1,3 +1,4 @@
 -- The laws of plan files.
 pub mod Refusals
 pub mod Accepted
+pub mod Ranges

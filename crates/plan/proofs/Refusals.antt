@@ -40,8 +40,9 @@ module _ (number : ℕ → ℕ) where
   first-at zero i l earlier here = absurd (omega arith)
   first-at (suc n) i l earlier here =
       elim (eq-or-lt-of-le (le-of-suc-le-suc l)) [
-        inl same ↦ rw (← same, earlier) (answer-refused (number i) i here) |
-        inr below ↦ rw (← (first-at n i below earlier here)) ]
+        | inl same ↦ rw (← same, earlier) (answer-refused (number i) i here)
+        | inr below ↦ rw (← (first-at n i below earlier here))
+      ]
 
   -- where none is refused, every number is 0
   pub first-done : (n v : ℕ) → firstRefused number n ≡ Done v → (i : ℕ) → i < n → number i ≡ 0
@@ -50,5 +51,6 @@ module _ (number : ℕ → ℕ) where
   first-done (suc n) v e i l =
       let parts = or-else-done (firstRefused number n) (answerOf (number n) n) v e in
       elim (eq-or-lt-of-le (le-of-suc-le-suc l)) [
-        inl same ↦ rw same (answer-done (number n) n v (parts .2)) |
-        inr below ↦ first-done n (parts .0) (parts .1) i below ]
+        | inl same ↦ rw same (answer-done (number n) n v (parts .2))
+        | inr below ↦ first-done n (parts .0) (parts .1) i below
+      ]

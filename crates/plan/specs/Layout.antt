@@ -36,7 +36,8 @@ trailerOf file =
       start = littleEndian4 file at;
       count = littleEndian2 file (at + 4);
       sx = getD file (at + 6) 0;
-      sy = getD file (at + 7) 0 }
+      sy = getD file (at + 7) 0;
+    }
 
 -- a record: xs, ys, xd, yd (one byte each), period P (two bytes), burst σ (one byte)
 unfoldable pub flowFrom : List ℕ → ℕ → Flow
@@ -47,7 +48,8 @@ flowFrom file at =
       xd = getD file (at + 2) 0;
       yd = getD file (at + 3) 0;
       period = littleEndian2 file (at + 4);
-      burst = getD file (at + 6) 0 }
+      burst = getD file (at + 6) 0;
+    }
 
 -- the record's last byte
 unfoldable pub lastAt : List ℕ → ℕ → ℕ

@@ -1,6 +1,5 @@
 // Plan files: the reader, its refusals 1 to 7, and the notes. Rests on laws and flow.
 use flow::Flow;
-
 ghost use mathlib.Core.Path.{_≡_};
 ghost use mathlib.Core.Bool.{Bool};
 ghost use Prim.Native.Nat.{_+_, _*_, _<_, _≤_};
@@ -198,6 +197,9 @@ pub fn notes(file: &[u8]) -> &[u8]
             let start = read_trailer(file).start as usize;
             &file[..start]
         }
-        Answer::Refused { number: _, place: _ } => &file[..0],
+        Answer::Refused {
+            number: _,
+            place: _,
+        } => &file[..0],
     }
 }
