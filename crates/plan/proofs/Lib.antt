@@ -2,3 +2,4 @@
 pub mod Refusals
 pub mod Accepted
 pub mod Ranges
+pub mod Written
