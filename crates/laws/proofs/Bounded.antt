@@ -41,3 +41,20 @@ all-fails p (suc n) i l e =
     last : (a b : Bool) → b ≡ false → a && b ≡ false
     last true b h = h
     last false b h = refl
+
+module _ {A : Type 0} where
+  pub length-tabulate : (n : ℕ) (f : ℕ → A) → length (tabulate n f) ≡ n
+  unfolding tabulate
+  length-tabulate zero f = refl
+  length-tabulate (suc n) f = omega (arith, length-append (tabulate n f) (f n ∷ []), length-tabulate n f)
+
+  -- entry i of the list is f i
+  pub getD-tabulate : (n : ℕ) (f : ℕ → A) (i : ℕ) (d : A) → i < n → getD (tabulate n f) i d ≡ f i
+  unfolding tabulate
+  getD-tabulate zero f i d l = absurd (omega arith)
+  getD-tabulate (suc n) f i d l =
+      elim (eq-or-lt-of-le (le-of-suc-le-suc l)) [
+        | inl same ↦ rw same (getD-at (tabulate n f) (f n) [] d n (length-tabulate n f))
+        | inr below ↦
+            List·getD-append (tabulate n f) (f n ∷ []) d i (omega (arith, length-tabulate n f)) ∙ getD-tabulate n f i d below
+      ]

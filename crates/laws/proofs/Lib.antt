@@ -2,4 +2,5 @@
 pub mod Cases
 pub mod Bounded
 pub mod Sum
+pub mod Count
 pub mod Turns
