@@ -1,7 +1,7 @@
 -- A flow's regulator, a bucket of tokens with a counter (01, One cycle, rules 3 and 4; The packet book, Start).
-use mathlib.Core.Bool.{Bool, cond}
+use mathlib.Core.Bool.{Bool, true, cond, _&&_}
 use Prim.Native.Nat.{ℕ, _+_, _-_}
-use lib.Dec.{ltb, eqb}
+use lib.Dec.{ltb, leb, eqb}
 use Rattle.bucket.specs.declared.Bucket.{Bucket}
 
 -- at reset: σ tokens, count 0
@@ -24,3 +24,8 @@ afterCount burst period b =
 -- the next state follows from the old one: after entry, the counter
 unfoldable pub afterCycle : ℕ → ℕ → Bool → Bucket → Bucket
 afterCycle burst period entered b = afterCount burst period (cond entered (afterSpend b) b)
+
+-- in words that form a state: tokens ≤ σ; count < P, and 0 when tokens = σ
+abbrev pub bucketFits : ℕ → ℕ → Bucket → Bool
+bucketFits burst period b =
+    leb (b .tokens) burst && ltb (b .count) period && cond (eqb (b .tokens) burst) (eqb (b .count) 0) true

@@ -1,3 +1,4 @@
 -- Bounded tests, sums and repeated steps: definitions that know nothing of the project.
 pub mod Bounded
 pub mod Turns
+pub mod Count

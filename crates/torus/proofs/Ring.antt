@@ -1,12 +1,12 @@
 -- Laws of offsets and neighbours for every size and all places below it. Rests on specs/Ring; nothing above opens that.
 use mathlib.Core.Path.{_≡_, refl, sym, ap, _∙_}
-use mathlib.Core.Logic.{_⊎_, inl, inr}
+use mathlib.Core.Logic.{_⊎_, inl, inr, _≢_}
 use Prim.Native.Nat.{ℕ, zero, suc, _+_, _-_, _*_, _%_, _≤_, _<_}
 use native.Mathlib.Nat.{mod-eq-of-lt, mod-lt, mod-self, add-mod-right}
 use native.Mathlib.Decide.{decLe, ℕ-discrete}
 use native.Mathlib.Omega.{arith}
 use borrow.Author.Tests.{eq-eqb, ne-eqb}
-use Rattle.torus.specs.Ring.{offset, next}
+use Rattle.torus.specs.Ring.{offset, next, lap}
 
 -- `to` lies at or after `from`, or the way goes round the end once
 pub offset-cases : (size from to : ℕ) → from < size → to < size
@@ -43,3 +43,83 @@ offset-is size from to f t d h =
       | inl a ↦ elim h [ inl b ↦ omega arith | inr b ↦ absurd (omega arith) ]
       | inr a ↦ elim h [ inl b ↦ absurd (omega arith) | inr b ↦ omega arith ]
     ]
+
+-- no way to go: the same place
+pub offset-same : (size at : ℕ) → at < size → offset size at at ≡ 0
+offset-same size at l = sym (offset-is size at at l l 0 (inl (omega arith)))
+
+pub offset-zero : (size from to : ℕ) → from < size → to < size → offset size from to ≡ 0 → from ≡ to
+offset-zero size from to f t e = elim (offset-cases size from to f t) [ inl h ↦ omega arith | inr h ↦ absurd (omega arith) ]
+
+pub next-below : (size at : ℕ) → at < size → next size at < size
+next-below size at l = elim (next-cases size at l) [ inl h ↦ omega arith | inr h ↦ omega arith ]
+
+-- no two places have the same next
+pub next-one : (size a b : ℕ) → a < size → b < size → next size a ≡ next size b → a ≡ b
+next-one size a b l m e =
+    elim (next-cases size a l) [
+      | inl h ↦ elim (next-cases size b m) [ inl k ↦ omega arith | inr k ↦ absurd (omega arith) ]
+      | inr h ↦ elim (next-cases size b m) [ inl k ↦ absurd (omega arith) | inr k ↦ omega arith ]
+    ]
+
+-- each place is next to one
+pub next-of : (size to : ℕ) → to < size → (at : ℕ) × (at < size) × (next size at ≡ to)
+next-of size to l =
+    elim (ℕ-discrete to 0) [
+      | yes e ↦
+          let m : size - 1 < size = omega arith in
+          (size - 1, m, elim (next-cases size (size - 1) m) [ inl h ↦ omega arith | inr h ↦ absurd (omega arith) ])
+      | no e ↦
+          let m : to - 1 < size = omega arith in
+          (to - 1, m, elim (next-cases size (to - 1) m) [ inl h ↦ absurd (omega arith) | inr h ↦ omega arith ])
+    ]
+
+-- one place on, the offset is one more, or the ring is round
+pub offset-next : (size from at : ℕ) → from < size → at < size
+    → ((offset size from at + 1 < size) × (offset size from (next size at) ≡ offset size from at + 1))
+    ⊎ ((offset size from at + 1 ≡ size) × (offset size from (next size at) ≡ 0))
+offset-next size from at f l =
+    let n = next-below size at l in
+    elim (offset-cases size from at f l) [
+      | inl h ↦ elim (next-cases size at l) [
+        | inl k ↦ elim (offset-cases size from (next size at) f n) [ inl m ↦ inr (omega arith) | inr m ↦ inl (omega arith) ]
+        | inr k ↦ elim (offset-cases size from (next size at) f n) [ inl m ↦ inl (omega arith) | inr m ↦ absurd (omega arith) ]
+      ]
+      | inr h ↦ elim (next-cases size at l) [
+        | inl k ↦ absurd (omega arith)
+        | inr k ↦ elim (offset-cases size from (next size at) f n) [ inl m ↦ inr (omega arith) | inr m ↦ inl (omega arith) ]
+      ]
+    ]
+
+-- the lap is the offset, but the size where that is 0
+pub lap-cases : (size from to : ℕ) → ((offset size from to ≡ 0) × (lap size from to ≡ size)) ⊎ ((1 ≤ offset size from to) × (lap size from to ≡ offset size from to))
+unfolding lap
+lap-cases size from to =
+    elim (ℕ-discrete (offset size from to) 0) [
+      | yes e ↦ inl (e, rw (eq-eqb (offset size from to) 0 e))
+      | no e ↦ inr (omega arith, rw (ne-eqb (offset size from to) 0 e))
+    ]
+
+-- a lap is 1 after the start, and one more with each place until the start is met again
+pub lap-first : (size from : ℕ) → from < size → lap size from (next size from) ≡ 1
+lap-first size from f =
+    let same = offset-same size from f in
+    elim (offset-next size from from f f) [
+      | inl h ↦ elim (lap-cases size from (next size from)) [ inl k ↦ absurd (omega arith) | inr k ↦ omega arith ]
+      | inr h ↦ elim (lap-cases size from (next size from)) [ inl k ↦ omega arith | inr k ↦ absurd (omega arith) ]
+    ]
+
+pub lap-next : (size from at : ℕ) → from < size → at < size → (at ≡ from → ⊥) → lap size from (next size at) ≡ lap size from at + 1
+lap-next size from at f l ne =
+    let other : offset size from at ≢ 0 = λ e. ne (sym (offset-zero size from at f l e)) in
+    elim (lap-cases size from at) [
+      | inl m ↦ absurd (omega arith)
+      | inr m ↦ elim (offset-next size from at f l) [
+        | inl h ↦ elim (lap-cases size from (next size at)) [ inl k ↦ absurd (omega arith) | inr k ↦ omega arith ]
+        | inr h ↦ elim (lap-cases size from (next size at)) [ inl k ↦ omega arith | inr k ↦ absurd (omega arith) ]
+      ]
+    ]
+
+pub lap-whole : (size at : ℕ) → at < size → lap size at at ≡ size
+lap-whole size at l =
+    elim (lap-cases size at at) [ inl h ↦ h .1 | inr h ↦ absurd (omega (arith, offset-same size at l)) ]

@@ -10,3 +10,7 @@ offset size from to = (to + size - from) % size
 -- the next column east, or the next row south: after the last comes 0
 unfoldable pub next : ℕ → ℕ → ℕ
 next size at = cond (eqb (at + 1) size) 0 (at + 1)
+
+-- (to − from) mod size, read as the size if that is 0
+unfoldable pub lap : ℕ → ℕ → ℕ → ℕ
+lap size from to = cond (eqb (offset size from to) 0) size (offset size from to)

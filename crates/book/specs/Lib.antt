@@ -1,0 +1,7 @@
+-- The packet book, in 01's words and order.
+pub mod Line
+pub mod Book
+pub mod Cycle
+pub mod Calls
+pub mod InPlace
+pub mod Promises

@@ -1,0 +1,1 @@
+// The packet book and its promises: no code, only specs/ and proofs/. Rests on flow, bucket and window.

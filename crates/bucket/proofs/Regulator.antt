@@ -1,0 +1,217 @@
+-- The two laws of the regulator: how often a flow enters in neighbouring cycles, and how long it is without a token.
+-- They alone open the bucket; what they rest on from reset is `Regulated`, whose fields nobody else reads.
+use mathlib.Core.Bool.{Bool, true, false, cond}
+use mathlib.Core.Logic.{_⊎_, inl, inr}
+use mathlib.Core.Path.{_≡_, refl, sym, ap, _∙_}
+use Prim.Native.Nat.{ℕ, zero, suc, _+_, _-_, _*_, _/_, _≤_, _<_}
+use native.Mathlib.Nat.{le-div-iff-mul-le, mul-le-mul-right}
+use native.Mathlib.Decide.{ℕ-discrete, decLe, decLt}
+use native.Mathlib.Omega.{arith}
+use borrow.Author.Tests.{lt-ltb, le-ltb, le-leb, eq-eqb, ne-eqb}
+use lib.Dec.{ltb}
+use Rattle.laws.specs.Count.{one}
+use Rattle.bucket.specs.declared.Bucket.{Bucket}
+use Rattle.bucket.specs.Regulator.{fullBucket, afterSpend, afterCount, afterCycle, bucketFits}
+use Rattle.bucket.specs.Curve.{curve}
+
+-- tokens and count in one number: a cycle adds at most 1, an entry takes P
+abbrev fill : ℕ → Bucket → ℕ
+fill period b = b .tokens * period + b .count
+
+-- b is a flow's bucket at clock c, c cycles after reset, and n a t is how often the flow entered in the cycles from a to t − 1
+pub record Regulated (burst period : ℕ) (b : Bucket) (c : ℕ) (n : ℕ → ℕ → ℕ) : Type 0 where
+  tokens-most : b .tokens ≤ burst
+  count-below : b .count < period
+  rests : b .tokens ≡ burst → b .count ≡ 0
+  filled : 1 ≤ fill period b
+  so-far : (a : ℕ) → a ≤ c → fill period b + n a c * period + a ≤ burst * period + c
+  before : (a t : ℕ) → a < t → t ≤ c → n a t * period + 1 + a ≤ burst * period + t
+
+-- the cycles until a bucket has a token, if the flow doesn't enter
+unfoldable pub wait : ℕ → Bucket → ℕ
+wait period b = cond (ltb 0 (b .tokens)) 0 (period - b .count)
+
+-- what the counter does in a cycle: it gives a token, it runs, or it rests
+data Counted (burst period : ℕ) (b r : Bucket) : Type 0 where
+  gives : b .tokens < burst → b .count + 1 ≡ period → r .tokens ≡ b .tokens + 1 → r .count ≡ 0 → Counted burst period b r
+  runs : b .tokens < burst → b .count + 1 < period → r .tokens ≡ b .tokens → r .count ≡ b .count + 1 → Counted burst period b r
+  stays : b .tokens ≡ burst → r .tokens ≡ b .tokens → r .count ≡ b .count → Counted burst period b r
+
+module _ (burst period : ℕ) where
+  counted : (b : Bucket) → b .tokens ≤ burst → b .count < period → Counted burst period b (afterCount burst period b)
+  unfolding afterCount
+  counted b t c =
+      elim (decLt (b .tokens) burst) [
+        | yes l ↦ elim (ℕ-discrete (b .count + 1) period) [
+          | yes e ↦ rw (lt-ltb (b .tokens) burst l, eq-eqb (b .count + 1) period e) (gives l e refl refl)
+          | no e ↦ rw (lt-ltb (b .tokens) burst l, ne-eqb (b .count + 1) period e) (runs l (omega arith) refl refl)
+        ]
+        | no l ↦ rw (le-ltb (b .tokens) burst (omega arith)) (stays (omega arith) refl refl)
+      ]
+
+  fill-most : (b : Bucket) → b .tokens ≤ burst → b .count < period → (b .tokens ≡ burst → b .count ≡ 0) → fill period b ≤ burst * period
+  fill-most b t c full =
+      elim (ℕ-discrete (b .tokens) burst) [
+        | yes e ↦ omega (arith, full e, ap (λ (x : ℕ). x * period) e)
+        | no e ↦ let l : b .tokens + 1 ≤ burst = omega arith in omega (arith, mul-le-mul-right period l)
+      ]
+
+  -- no wait with a token; without one, until the counter is round
+  abbrev Waits : Bucket → Type 0
+  Waits b = ((1 ≤ b .tokens) × (wait period b ≡ 0)) ⊎ ((b .tokens ≡ 0) × (wait period b ≡ period - b .count))
+
+  wait-cases : (b : Bucket) → Waits b
+  unfolding wait
+  wait-cases b =
+      elim (decLt 0 (b .tokens)) [
+        | yes l ↦ inl (l, rw (lt-ltb 0 (b .tokens) l))
+        | no l ↦ inr (omega arith, rw (le-ltb 0 (b .tokens) (omega arith)))
+      ]
+
+  -- a bucket r after a cycle of b in which the flow entered or not
+  record Cycled (e : Bool) (b r : Bucket) : Type 0 where
+    tokens-most : r .tokens ≤ burst
+    count-below : r .count < period
+    rests : r .tokens ≡ burst → r .count ≡ 0
+    fill-more : fill period r + one e * period ≤ fill period b + 1
+    filled : 1 ≤ fill period r
+
+  -- the counter's part: it is not full and nothing was spent, or it has room
+  ran : (b r : Bucket) → Counted burst period b r → b .tokens ≤ burst → b .count < period → (b .tokens ≡ burst → b .count ≡ 0)
+      → (b .tokens < burst) ⊎ (1 ≤ fill period b) → Cycled false b r
+  ran b r (gives l e t c) m u full h =
+      let fills : r .tokens * period ≡ (b .tokens + 1) * period = ap (λ (x : ℕ). x * period) t in
+      record { tokens-most = omega arith; count-below = omega arith; rests = λ x. c; fill-more = omega arith; filled = omega arith }
+  ran b r (runs l e t c) m u full h =
+      let fills : r .tokens * period ≡ b .tokens * period = ap (λ (x : ℕ). x * period) t in
+      record { tokens-most = omega arith; count-below = omega arith; rests = λ x. absurd (omega arith); fill-more = omega arith; filled = omega arith }
+  ran b r (stays l t c) m u full h =
+      let fills : r .tokens * period ≡ b .tokens * period = ap (λ (x : ℕ). x * period) t in
+      record {
+        tokens-most = omega arith;
+        count-below = omega arith;
+        rests = λ x. c ∙ full l;
+        fill-more = omega arith;
+        filled = elim h [ inl x ↦ absurd (omega arith) | inr x ↦ omega arith ];
+      }
+
+  module _ (b : Bucket) (c : ℕ) (n : ℕ → ℕ → ℕ) (held : Regulated burst period b c n) where
+    cycled : (e : Bool) → (e ≡ true → 1 ≤ b .tokens) → Cycled e b (afterCycle burst period e b)
+    unfolding afterCycle
+    cycled true token =
+        let some : 1 ≤ b .tokens = token refl in
+        let m : b .tokens - 1 ≤ burst = omega (arith, held .tokens-most) in
+        let ran′ = ran (afterSpend b) _ (counted (afterSpend b) m (held .count-below)) m (held .count-below) (λ x. absurd (omega (arith, held .tokens-most))) (inl (omega (arith, held .tokens-most))) in
+        let spent : b .tokens * period ≡ (b .tokens - 1 + 1) * period = ap (λ (x : ℕ). x * period) (omega arith) in
+        record { tokens-most = ran′ .tokens-most; count-below = ran′ .count-below; rests = ran′ .rests; fill-more = omega (arith, ran′ .fill-more); filled = ran′ .filled }
+    cycled false token = ran b _ (counted b (held .tokens-most) (held .count-below)) (held .tokens-most) (held .count-below) (held .rests) (inr (held .filled))
+
+    -- a cycle, and the entries so far with the one of this cycle
+    pub cycle : (e : Bool) → (e ≡ true → 1 ≤ b .tokens) → (n′ : ℕ → ℕ → ℕ)
+        → ((a t : ℕ) → t ≤ c → n′ a t ≡ n a t) → ((a : ℕ) → a ≤ c → n′ a (c + 1) ≡ n a c + one e) → n′ (c + 1) (c + 1) ≡ 0
+        → Regulated burst period (afterCycle burst period e b) (c + 1) n′
+    cycle e token n′ old new none =
+        record {
+          tokens-most = r .tokens-most;
+          count-below = r .count-below;
+          rests = r .rests;
+          filled = r .filled;
+          so-far = far;
+          before = past;
+        }
+      where
+        r : Cycled e b (afterCycle burst period e b)
+        r = cycled e token
+
+        far : (a : ℕ) → a ≤ c + 1 → fill period (afterCycle burst period e b) + n′ a (c + 1) * period + a ≤ burst * period + (c + 1)
+        far a l =
+            elim (decLe a c) [
+              | yes m ↦ omega (arith, held .so-far a m, ap (λ (x : ℕ). x * period) (new a m), r .fill-more)
+              | no m ↦
+                  let now : a ≡ c + 1 = omega arith in
+                  rw (now, none) (omega (arith, fill-most (afterCycle burst period e b) (r .tokens-most) (r .count-below) (r .rests)))
+            ]
+
+        past : (a t : ℕ) → a < t → t ≤ c + 1 → n′ a t * period + 1 + a ≤ burst * period + t
+        past a t l m =
+            elim (decLe t c) [
+              | yes k ↦ rw (old a t k) (held .before a t l k)
+              | no k ↦ let now : t ≡ c + 1 = omega arith in rw now (omega (arith, far a (omega arith), r .filled))
+            ]
+
+    -- the entries counted another way
+    pub recount : (n′ : ℕ → ℕ → ℕ) → ((a t : ℕ) → n′ a t ≡ n a t) → Regulated burst period b c n′
+    recount n′ same =
+        record {
+          tokens-most = held .tokens-most;
+          count-below = held .count-below;
+          rests = held .rests;
+          filled = held .filled;
+          so-far = λ a l. rw (same a c) (held .so-far a l);
+          before = λ a t l m. rw (same a t) (held .before a t l m);
+        }
+
+    -- in L ≥ 1 neighbouring cycles a flow enters at most curve (L − 1) times
+    pub enters-at-most : (a t d : ℕ) → a < t → t ≤ c → t ≤ a + 1 + d → n a t ≤ curve burst period d
+    unfolding curve
+    enters-at-most a t d l m k =
+        elim (decLe (n a t) burst) [
+          | yes h ↦ omega arith
+          | no h ↦
+              let over : (n a t - burst) * period ≤ d =
+              let split : n a t * period ≡ (n a t - burst + burst) * period = ap (λ (x : ℕ). x * period) (omega arith) in
+              omega (arith, held .before a t l m) in
+              omega (arith, le-div-iff-mul-le {k = period} {x = n a t - burst} {y = d} (omega (arith, held .count-below)) .1 over)
+        ]
+
+    -- a flow is without a token for at most P − 1 cycles
+    pub wait-most : wait period b < period
+    wait-most =
+        elim (wait-cases b) [
+          | inl h ↦ omega (arith, held .count-below)
+          | inr h ↦ omega (arith, held .count-below, held .filled, ap (λ (x : ℕ). x * period) (h .0))
+        ]
+
+    pub wait-some : b .tokens ≡ 0 → 1 ≤ wait period b
+    wait-some none = elim (wait-cases b) [ inl h ↦ absurd (omega arith) | inr h ↦ omega (arith, held .count-below) ]
+
+    -- without an entry the wait is one less each cycle, and a token stays
+    pub wait-less : 1 ≤ burst → b .tokens ≡ 0 → wait period (afterCycle burst period false b) + 1 ≡ wait period b
+    unfolding afterCycle
+    wait-less h none = less (counted b (held .tokens-most) (held .count-below)) (wait-cases (afterCount burst period b)) (wait-cases b)
+      where
+        less : Counted burst period b (afterCount burst period b) → Waits (afterCount burst period b) → Waits b → wait period (afterCount burst period b) + 1 ≡ wait period b
+        less (gives l e t c) (inl u) (inr v) = omega arith
+        less (gives l e t c) (inr u) (inr v) = absurd (omega arith)
+        less (runs l e t c) (inl u) (inr v) = absurd (omega arith)
+        less (runs l e t c) (inr u) (inr v) = omega arith
+        less (stays l t c) w (inr v) = absurd (omega arith)
+        less counted′ w (inl v) = absurd (omega arith)
+
+    pub token-stays : 1 ≤ b .tokens → 1 ≤ (afterCycle burst period false b) .tokens
+    unfolding afterCycle
+    token-stays some = stay (counted b (held .tokens-most) (held .count-below))
+      where
+        stay : Counted burst period b (afterCount burst period b) → 1 ≤ (afterCount burst period b) .tokens
+        stay (gives l e t c) = omega arith
+        stay (runs l e t c) = omega arith
+        stay (stays l t c) = omega arith
+
+    pub fits : bucketFits burst period b ≡ true
+    fits =
+        elim (ℕ-discrete (b .tokens) burst) [
+          | yes e ↦ rw (le-leb (b .tokens) burst (held .tokens-most), lt-ltb (b .count) period (held .count-below), eq-eqb (b .tokens) burst e, eq-eqb (b .count) 0 (held .rests e))
+          | no e ↦ rw (le-leb (b .tokens) burst (held .tokens-most), lt-ltb (b .count) period (held .count-below), ne-eqb (b .tokens) burst e)
+        ]
+
+  -- at reset
+  pub reset : 1 ≤ burst → 1 ≤ period → (n : ℕ → ℕ → ℕ) → n 0 0 ≡ 0 → Regulated burst period (fullBucket burst) 0 n
+  reset h k n none =
+      record {
+        tokens-most = omega arith;
+        count-below = k;
+        rests = λ e. refl;
+        filled = omega (arith, mul-le-mul-right period h);
+        so-far = λ a l. let first : a ≡ 0 = omega arith in rw (first, none) (omega arith);
+        before = λ a t l m. absurd (omega arith);
+      }
