@@ -1,1 +1,2 @@
--- The laws of the regulator.
+-- The laws of the regulator and of its curve.
+pub mod Curve

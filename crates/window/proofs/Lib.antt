@@ -1,1 +1,5 @@
 -- The laws of windows.
+pub mod Least
+pub mod Interference
+pub mod Window
+pub mod Cases

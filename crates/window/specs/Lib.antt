@@ -2,3 +2,4 @@
 pub mod Conflict
 pub mod Window
 pub mod Flight
+pub mod Cases
