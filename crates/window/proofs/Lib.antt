@@ -1,4 +1,5 @@
 -- The laws of windows.
+pub mod Spread
 pub mod Least
 pub mod Interference
 pub mod Window
