@@ -3,4 +3,5 @@ pub mod Spread
 pub mod Least
 pub mod Interference
 pub mod Window
+pub mod Rivals
 pub mod Cases
