@@ -1,7 +1,7 @@
 // A flow's plan numbers, its offsets on the torus and its port. Rests on laws and torus.
 ghost use mathlib.Core.Path.{_≡_};
 ghost use Prim.Native.Nat.{_<_};
-ghost use Rattle.flow.specs.Offsets.{ΔX, ΔY, portOf};
+ghost use Rattle.flow.specs.Offsets.{ΔX, ΔY, portOf, sameClient};
 ghost use Rattle.flow.specs.Plan.{onTorus};
 
 // The six plan numbers of a flow, in record order: source, destination, period P and burst σ.
@@ -62,5 +62,15 @@ impl Flow {
             return Port::East;
         }
         Port::South
+    }
+
+    // Whether two flows have one client.
+    pub fn same_client(self, other: Flow) -> bool
+        ensures { λ r. ⌜ r ≡ sameClient self other ⌝ }
+    {
+        if self.xs != other.xs {
+            return false;
+        }
+        self.ys == other.ys
     }
 }

@@ -1,5 +1,7 @@
 -- The laws of windows.
+pub mod Spread
 pub mod Least
 pub mod Interference
 pub mod Window
+pub mod Rivals
 pub mod Cases
