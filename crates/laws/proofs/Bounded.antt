@@ -46,30 +46,20 @@ module _ {A : Type 0} where
   pub length-tabulate : (n : ℕ) (f : ℕ → A) → length (tabulate n f) ≡ n
   unfolding tabulate
   length-tabulate zero f = refl
-<<<<<<< HEAD
-  length-tabulate (suc n) f = length-append (tabulate n f) (f n ∷ []) ∙ (let e = length-tabulate n f in omega arith)
-
-=======
   length-tabulate (suc n) f = omega (arith, length-append (tabulate n f) (f n ∷ []), length-tabulate n f)
 
   -- entry i of the list is f i
->>>>>>> 420d597ce8b3795124254b7d3492c2164fc70088
   pub getD-tabulate : (n : ℕ) (f : ℕ → A) (i : ℕ) (d : A) → i < n → getD (tabulate n f) i d ≡ f i
   unfolding tabulate
   getD-tabulate zero f i d l = absurd (omega arith)
   getD-tabulate (suc n) f i d l =
       elim (eq-or-lt-of-le (le-of-suc-le-suc l)) [
         | inl same ↦ rw same (getD-at (tabulate n f) (f n) [] d n (length-tabulate n f))
-<<<<<<< HEAD
-        | inr below ↦ List·getD-append (tabulate n f) (f n ∷ []) d i (rw (length-tabulate n f) below) ∙ getD-tabulate n f i d below
+        | inr below ↦
+            List·getD-append (tabulate n f) (f n ∷ []) d i (omega (arith, length-tabulate n f)) ∙ getD-tabulate n f i d below
       ]
 
   -- a list is the table of its entries
   pub is-tabulate : (l : List A) (n : ℕ) (f : ℕ → A) (d : A) → length l ≡ n → ((i : ℕ) → i < n → getD l i d ≡ f i) → l ≡ tabulate n f
   is-tabulate l n f d long at =
       ext-getD d l (tabulate n f) (long ∙ sym (length-tabulate n f)) (λ i h. at i (rw long at h) ∙ sym (getD-tabulate n f i d (rw long at h)))
-=======
-        | inr below ↦
-            List·getD-append (tabulate n f) (f n ∷ []) d i (omega (arith, length-tabulate n f)) ∙ getD-tabulate n f i d below
-      ]
->>>>>>> 420d597ce8b3795124254b7d3492c2164fc70088
