@@ -3,5 +3,7 @@ pub mod Cases
 pub mod Bounded
 pub mod Sum
 pub mod Count
+pub mod Keep
+pub mod Grid
 pub mod Parts
 pub mod Turns

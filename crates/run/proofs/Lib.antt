@@ -1,0 +1,1 @@
+-- The engine's definitions follow the packet book.

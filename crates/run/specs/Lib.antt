@@ -1,0 +1,2 @@
+-- The state of a packet book, and whole lists of calls.
+pub mod View
