@@ -4,3 +4,4 @@ pub mod Moves
 pub mod Entries
 pub mod Queue
 pub mod Traced
+pub mod Spans

@@ -233,5 +233,5 @@ module _ (b : Book) (q : Queued b) where
           rw (q .numbered g, count-append (ofFlow g) (b .lines) (new′ ∷ []))
           (elim (ℕ-discrete f g) [
             | yes e ↦ rw (eq-eqb f g e, tabulate-more (totalOf b g) (λ i. i + 1), e)
-            | no e ↦ rw (ne-eqb f g e, append-nil, add-zero)
+            | no e ↦ rw (ne-eqb f g e, append-nil, add-zero (totalOf b g))
           ])
