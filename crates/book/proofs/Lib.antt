@@ -1,1 +1,7 @@
 -- The promises of the packet book.
+pub mod Path
+pub mod Moves
+pub mod Entries
+pub mod Queue
+pub mod Traced
+pub mod Spans

@@ -47,6 +47,9 @@ module _ {A : Type 0} where
   any-count t [] e = absurd (false≢true e)
   any-count t (z ∷ l) e = elim (test (t z)) [ inl h ↦ rw h (omega arith) | inr h ↦ rw h (omega (arith, any-count t l (rw h at e))) ]
 
+  pub mem-count : (t : A → Bool) {x : A} (l : List A) → Mem x l → t x ≡ true → 1 ≤ count t l
+  mem-count t l m e = any-count t l (any-mem t l m e)
+
   pub none-count : (t : A → Bool) (l : List A) → any t l ≡ false → count t l ≡ 0
   none-count t [] e = refl
   none-count t (z ∷ l) e = elim (test (t z)) [ inl h ↦ absurd (false≢true (sym e ∙ rw h)) | inr h ↦ rw (h, none-count t l (rw h at e)) ]
