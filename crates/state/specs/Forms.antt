@@ -15,7 +15,7 @@ use Rattle.book.specs.InPlace.{inPlace}
 use Rattle.state.specs.declared.Register.{Register}
 use Rattle.state.specs.declared.Register.the-variants.{Empty, Packet}
 use Rattle.state.specs.Layout.{headerSize, registerSize, flowPlace, stateSize}
-use Rattle.state.specs.State.{Tally}
+use Rattle.state.specs.declared.Tally.{Tally}
 use Rattle.state.specs.Read.{sxIn, syIn, countIn, clockIn, flowIn, tallyIn, registerIn, routerIn}
 
 -- the first eight words: Sx, Sy and F lie in their ranges, and the four zeros are 0
