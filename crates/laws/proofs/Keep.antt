@@ -11,7 +11,7 @@ use borrow.Author.Tests.{lt-ltb, le-ltb}
 use Rattle.laws.specs.Bounded.{sumBelow}
 use Rattle.laws.specs.Count.{one, count, any, keep, joinBelow}
 use Rattle.laws.proofs.Cases.{test}
-use Rattle.laws.proofs.Count.{any-count, none-count}
+use Rattle.laws.proofs.Count.{any-count, none-count, mem-count}
 
 module _ {A : Type 0} where
   -- equal tests on the members, the same members kept
@@ -51,6 +51,26 @@ module _ {A : Type 0} where
   pub length-keep : (t : A → Bool) (l : List A) → length (keep t l) ≡ count t l
   length-keep t [] = refl
   length-keep t (z ∷ l) = elim (test (t z)) [ inl e ↦ rw (e, length-keep t l) (omega arith) | inr e ↦ rw (e, length-keep t l) (omega arith) ]
+
+  -- at most one member
+  pub few : (l : List A) → length l ≤ 1 → (l ≡ []) ⊎ ((x : A) × (l ≡ x ∷ []))
+  few [] h = inl refl
+  few (x ∷ []) h = inr (x, refl)
+  few (x ∷ y ∷ l) h = absurd (omega arith)
+
+  -- the only member that passes
+  pub keep-one : (t : A → Bool) (l : List A) → count t l ≤ 1 → (x : A) → Mem x l → t x ≡ true → keep t l ≡ x ∷ []
+  keep-one t (z ∷ l) h x (here s) e =
+      rw (← s, e, keep-none t l (λ y m. elim (test (t y)) [ inl k ↦ absurd (omega (arith, mem-count t l m k, rw (← s, e) at h)) | inr k ↦ k ]))
+  keep-one t (z ∷ l) h x (there m) e =
+      elim (test (t z)) [
+        | inl k ↦ absurd (omega (arith, mem-count t l m e, rw k at h))
+        | inr k ↦ rw k (keep-one t l (omega (arith, rw k at h)) x m e)
+      ]
+
+  pub any-both : (t u : A → Bool) (l : List A) → any (λ x. t x && u x) l ≡ any u (keep t l)
+  any-both t u [] = refl
+  any-both t u (z ∷ l) = elim (test (t z)) [ inl e ↦ rw (e, any-both t u l) | inr e ↦ rw (e, any-both t u l) ]
 
   -- one member passes where the count is not 0
   pub any-by-count : (t : A → Bool) (l : List A) → any t l ≡ ltb 0 (count t l)

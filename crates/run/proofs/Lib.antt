@@ -1,1 +1,4 @@
 -- The engine's definitions follow the packet book.
+pub mod View
+pub mod Entry
+pub mod Sends

@@ -11,7 +11,9 @@ use Rattle.book.specs.Line.{Place, W, N, Line, standsIn, entryOf}
 use Rattle.book.specs.Book.{Book, bucketAt, waitingOf, enteredOf}
 use Rattle.state.specs.declared.Register.{Register}
 use Rattle.state.specs.declared.Register.the-variants.{Empty, Packet}
-use Rattle.state.specs.State.{Tally, Cell, State}
+use Rattle.state.specs.declared.Tally.{Tally}
+use Rattle.state.specs.declared.Cell.{Cell}
+use Rattle.state.specs.State.{State}
 
 -- a line as a register has it: flow, serial, entry cycle, deflections D
 abbrev pub packetOf : Line → Register
