@@ -41,7 +41,7 @@ module _ (p : Plan) (b : Book) (o : Orderly p b) where
         tally-at p b f l,
         ← (any-by-count (waitsFor f) (b .lines)),
         cell-at p b (φ .xs) (φ .ys) (ok .xs-on) (ok .ys-on),
-        open-same (φ .xs) (φ .ys) (portOf (p .sx) φ)
+        open-same (φ .xs) (φ .ys) (portOf (p .sx) φ),
       )
 
   pub enters-same : (f : ℕ) → f < length (p .flows) → Entry.enters (bookState p b) f ≡ Cycle.enters p b f
@@ -50,5 +50,5 @@ module _ (p : Plan) (b : Book) (o : Orderly p b) where
       rw (
         ready-same f l,
         any-same (λ g. sameClient (flowAt p f) (flowAt p g) && Entry.ready (bookState p b) g) (λ g. sameClient (flowAt p f) (flowAt p g) && Cycle.ready p b g) f
-        (λ g k. rw (ready-same g (omega arith)))
+            (λ g k. rw (ready-same g (omega arith))),
       )

@@ -2,3 +2,5 @@
 pub mod View
 pub mod Entry
 pub mod Sends
+pub mod Outgoing
+pub mod Client

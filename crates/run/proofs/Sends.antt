@@ -39,10 +39,10 @@ abbrev pub isHome : (x y : ℕ) → Flow → Bool
 isHome x y f = eqb x (f .xd) && eqb y (f .yd)
 
 -- a test of the new stage that tells who was sent there, of the flows with h
-record Tells (p : Plan) (c x y : ℕ) (o : Port) (t : Stage → Bool) (h : Flow → Bool) : Type 0 where
-  waits : t waiting ≡ false
-  past : (e t′ x′ y′ : ℕ) → t′ < c → t (left e t′ x′ y′) ≡ false
-  goes : (f : Flow) (e x′ y′ : ℕ) (o′ : Port) → x′ < p .sx → y′ < p .sy → t (sent p f c e x′ y′ o′) ≡ atPort x y o x′ y′ o′ && h f
+pub record Tells (p : Plan) (c x y : ℕ) (o : Port) (t : Stage → Bool) (h : Flow → Bool) : Type 0 where
+  pub waits : t waiting ≡ false
+  pub past : (e t′ x′ y′ : ℕ) → t′ < c → t (left e t′ x′ y′) ≡ false
+  pub goes : (f : Flow) (e x′ y′ : ℕ) (o′ : Port) → x′ < p .sx → y′ < p .sy → t (sent p f c e x′ y′ o′) ≡ atPort x y o x′ y′ o′ && h f
 
 -- a placed line is on the torus
 on-torus : (p : Plan) (f : Flow) (c D e : ℕ) (at : Place) → FlowOk (p .sx) (p .sy) f → Sound p f c D (placed e at)
@@ -52,7 +52,7 @@ on-torus p f c D e (W x y) ok (inr s) = (s .column, s .row)
 on-torus p f c D e (N x y) ok s = (omega (arith, s .column, ok .xd-on), s .row)
 
 module _ (p : Plan) (b : Book) (x y : ℕ) (o : Port) (t : Stage → Bool) (h : Flow → Bool) (k : Tells p (b .clock) x y o t h) where
-  moved : (l : Line) (D : ℕ) (s : Stage) → FlowOk (p .sx) (p .sy) (flowAt p (l .flow)) → Sound p (flowAt p (l .flow)) (b .clock) D s
+  pub moved : (l : Line) (D : ℕ) (s : Stage) → FlowOk (p .sx) (p .sy) (flowAt p (l .flow)) → Sound p (flowAt p (l .flow)) (b .clock) D s
       → t (moveStage p b l s) ≡ sends p b x y o l s && h (flowAt p (l .flow))
   moved l D waiting ok sound =
       elim (test (enters p b (l .flow) && lowest b l)) [
@@ -63,7 +63,7 @@ module _ (p : Plan) (b : Book) (x y : ℕ) (o : Port) (t : Stage → Bool) (h : 
       let on = on-torus p (flowAt p (l .flow)) (b .clock) D e at ok sound in k .goes (flowAt p (l .flow)) _ _ _ _ (on .0) (on .1)
   moved l D (left e t′ x′ y′) ok sound = k .past e t′ x′ y′ (sound .past)
 
-eqb-sym : (a b : ℕ) → eqb a b ≡ eqb b a
+pub eqb-sym : (a b : ℕ) → eqb a b ≡ eqb b a
 eqb-sym a b = elim (ℕ-discrete a b) [ yes e ↦ rw (eq-eqb a b e, eq-eqb b a (sym e)) | no e ↦ rw (ne-eqb a b e, ne-eqb b a (λ u. e (sym u))) ]
 
 -- places with the same next are the same
@@ -76,7 +76,7 @@ next-eqb size a b l m =
 
 module _ (p : Plan) (c x y : ℕ) (lx : x < p .sx) (ly : y < p .sy) where
   -- what is sent E stands in W to the east
-  east-tells : Tells p c x y East (standsIn (W (next (p .sx) x) y)) (λ f. true)
+  pub east-tells : Tells p c x y East (standsIn (W (next (p .sx) x) y)) (λ f. true)
   unfolding sent
   east-tells = record { waits = refl; past = λ e t′ x′ y′ l. refl; goes = go }
     where
@@ -130,7 +130,7 @@ module _ (p : Plan) (c x y : ℕ) (lx : x < p .sx) (ly : y < p .sy) where
               ])
         ]
 
-  north-tells : Tells p c x y South (standsIn (N x (next (p .sy) y))) (λ f. not (isHome x y f))
+  pub north-tells : Tells p c x y South (standsIn (N x (next (p .sy) y))) (λ f. not (isHome x y f))
   unfolding sent
   north-tells = record { waits = refl; past = λ e t′ x′ y′ l. refl; goes = go }
     where
@@ -139,7 +139,7 @@ module _ (p : Plan) (c x y : ℕ) (lx : x < p .sx) (ly : y < p .sy) where
       go f e x′ y′ East l m = rw (and-false (eqb x′ x && eqb y′ y))
       go f e x′ y′ South l m = sent-north f e x′ y′ m
 
-  left-tells : Tells p c x y South (leftAt c x y) (isHome x y)
+  pub left-tells : Tells p c x y South (leftAt c x y) (isHome x y)
   unfolding sent
   left-tells = record { waits = refl; past = λ e t′ x′ y′ l. rw (ne-eqb t′ c (omega arith)); goes = go }
     where
