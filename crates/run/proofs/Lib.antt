@@ -4,3 +4,5 @@ pub mod Entry
 pub mod Sends
 pub mod Outgoing
 pub mod Client
+pub mod Outputs
+pub mod Step

@@ -129,7 +129,7 @@ module _ (p : Plan) (b : Book) (x y : ℕ) (o : Port) where
       ]
 
   -- a line is sent from W, from N or by its client
-  split : (l : Line) (s : Stage) → (standsIn (W x y) s ≡ true → eqb x ((flowAt p (l .flow)) .xd) ≡ tw)
+  pub split : (l : Line) (s : Stage) → (standsIn (W x y) s ≡ true → eqb x ((flowAt p (l .flow)) .xd) ≡ tw)
       → sends p b x y o l s
       ≡ (standsIn (W x y) s && fromWest) || (standsIn (N x y) s && fromNorth)
       || ((isWaiting s && (enters p b (l .flow) && lowest b l)) && atPort x y o ((flowAt p (l .flow)) .xs) ((flowAt p (l .flow)) .ys) (portOf (p .sx) (flowAt p (l .flow))))
