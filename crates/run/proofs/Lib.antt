@@ -6,3 +6,4 @@ pub mod Outgoing
 pub mod Client
 pub mod Outputs
 pub mod Step
+pub mod Delivery
