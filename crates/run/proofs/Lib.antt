@@ -7,3 +7,4 @@ pub mod Client
 pub mod Outputs
 pub mod Step
 pub mod Delivery
+pub mod Offer
