@@ -5,3 +5,6 @@ pub mod Entries
 pub mod Queue
 pub mod Traced
 pub mod Spans
+pub mod Meetings
+pub mod Takers
+pub mod Charge
