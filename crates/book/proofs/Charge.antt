@@ -141,7 +141,7 @@ module _ (p : Plan) (ok : PlanOk p) (b : Book) (f : ℕ) (in-plan : f < length (
           (z .0, z .1, goes-takes (z .0) (z .0 .stage) (k .1) (ap (λ (h : ℕ). sameClient φ (flowAt p h)) own ∙ same) (omega arith))
 
   -- who has passed stays so
-  passed-step : (s : ℕ) (l : Line) → Mem l (b .lines) → passed p f s (b .clock) l ≡ true → passed p f s (b .clock + 1) (move p b l) ≡ true
+  pub passed-step : (s : ℕ) (l : Line) → Mem l (b .lines) → passed p f s (b .clock) l ≡ true → passed p f s (b .clock + 1) (move p b l) ≡ true
   passed-step s l m e =
       let ψ : Flow = flowAt p (l .flow) in
       let k = and-true (not (eqb (l .flow) f)) (passedAt p φ ψ s (b .clock) (l .stage)) e in

@@ -8,3 +8,4 @@ pub mod Spans
 pub mod Meetings
 pub mod Takers
 pub mod Charge
+pub mod Interference

@@ -74,7 +74,7 @@ module _ (p : Plan) (ok : PlanOk p) where
               ]
 
       -- the cycle of the step
-      span-new : (f a : ℕ) → a ≤ b .clock → span (stepped p b) f a (b .clock + 1) ≡ span b f a (b .clock) + one (enters p b f)
+      pub span-new : (f a : ℕ) → a ≤ b .clock → span (stepped p b) f a (b .clock + 1) ≡ span b f a (b .clock) + one (enters p b f)
       span-new f a l =
           count-map (λ k. ofFlow f k && enteredIn a (b .clock + 1) (k .stage)) (move p b) (b .lines)
           ∙ count-sum (λ k. ofFlow f k && enteredIn a (b .clock + 1) (moveStage p b k (k .stage))) (λ k. ofFlow f k && enteredIn a (b .clock) (k .stage)) (λ k. ofFlow f k && goes p b k) (b .lines)
