@@ -9,3 +9,4 @@ pub mod Meetings
 pub mod Takers
 pub mod Charge
 pub mod Interference
+pub mod Pace

@@ -41,6 +41,12 @@ none-within a n = elim (decLe a n) [ yes l ↦ rw (le-ltb n a l) (and-false (leb
 abbrev pub AllRegulated : Plan → Book → Type 0
 AllRegulated p b = (f : ℕ) → f < length (p .flows) → Regulated ((flowAt p f) .burst) ((flowAt p f) .period) (bucketAt b f) (b .clock) (span b f)
 
+-- rule 4
+pub bucket-step : (p : Plan) (b : Book) (f : ℕ) → f < length (p .flows)
+    → bucketAt (stepped p b) f ≡ afterCycle ((flowAt p f) .burst) ((flowAt p f) .period) (enters p b f) (bucketAt b f)
+bucket-step p b f l =
+    getD-tabulate (length (p .flows)) (λ g. afterCycle ((flowAt p g) .burst) ((flowAt p g) .period) (enters p b g) (bucketAt b g)) f (fullBucket 0) l
+
 module _ (p : Plan) (ok : PlanOk p) where
   pub regulated-start : AllRegulated p (start p)
   regulated-start f l =
@@ -108,7 +114,7 @@ module _ (p : Plan) (ok : PlanOk p) where
 
       pub regulated-step : AllRegulated p (stepped p b)
       regulated-step f l =
-          rw (getD-tabulate (length (p .flows)) (λ g. afterCycle ((flowAt p g) .burst) ((flowAt p g) .period) (enters p b g) (bucketAt b g)) f (fullBucket 0) l)
+          rw (bucket-step p b f l)
           (cycle _ _ (bucketAt b f) (b .clock) (span b f) (held f l) (enters p b f) (λ e. entering-ready p b f e .token) (span (stepped p b) f)
           (span-old f) (span-new f) (span-none f))
         where
