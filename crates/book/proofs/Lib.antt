@@ -10,3 +10,5 @@ pub mod Takers
 pub mod Charge
 pub mod Interference
 pub mod Pace
+pub mod Outputs
+pub mod Places

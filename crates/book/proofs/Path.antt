@@ -262,6 +262,12 @@ module _ (p : Plan) (f : Flow) (ok : FlowOk (p .sx) (p .sy) f) where
       more′ : {n : ℕ} {s : Stage} → Leads c 0 n s → Leads c 0 0 s
       more′ h = record { sound = h .sound; rises = omega (arith, h .rises) }
 
+  -- a place is a register of the torus
+  pub placed-on : (c D e : ℕ) (at : Place) → Sound p f c D (placed e at) → (columnOf at < p .sx) × (rowOf at < p .sy)
+  placed-on c D e (N x y) h = (rw (h .column) (ok .xd-on), h .row)
+  placed-on c D e (W x y) (inl h) = (h .column, rw (h .row) (ok .ys-on))
+  placed-on c D e (W x y) (inr h) = (h .column, h .row)
+
   -- an entered packet has made progress, and entered in an earlier cycle
   pub entered-progress : (c D : ℕ) (s : Stage) → Sound p f c D s → isWaiting s ≡ false → 1 ≤ progress p f s
   entered-progress c D waiting h e = absurd (false≢true (sym e))
