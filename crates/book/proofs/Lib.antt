@@ -12,3 +12,5 @@ pub mod Interference
 pub mod Pace
 pub mod Outputs
 pub mod Places
+pub mod Deliveries
+pub mod Kept

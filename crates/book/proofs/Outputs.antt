@@ -11,7 +11,7 @@ use borrow.Author.Tests.{eq-eqb, ne-eqb, eqb-true, not-false}
 use lib.Dec.{ltb, eqb}
 use Rattle.laws.specs.Count.{one, count, any}
 use Rattle.laws.proofs.Cases.{test, and-true}
-use Rattle.laws.proofs.Count.{any-true, any-mem, mem-count, any-count, none-count, count-mono, count-sum}
+use Rattle.laws.proofs.Count.{one-most, any-true, any-mem, mem-count, any-count, none-count, count-mono, count-sum}
 use Rattle.flow.specs.declared.Flow.{Flow}
 use Rattle.flow.specs.declared.Port.{Port}
 use Rattle.flow.specs.declared.Port.the-variants.{East, South}
@@ -149,10 +149,6 @@ module _ (p : Plan) (b : Book) (x y : ℕ) where
             (rw (goes-count b q p (z .0 .flow)) (one-most (enters p b (z .0 .flow))))
       ]
     where
-      one-most : (t : Bool) → one t ≤ 1
-      one-most true = omega arith
-      one-most false = omega arith
-
       same : (z : Line) → Entering o z → (l : Line) → Entering o l → ofFlow (z .flow) l && goes p b l ≡ true
       same z h l k =
           let own = one-enters p b (l .flow) (z .flow) (k .entering) (h .entering)

@@ -27,7 +27,7 @@ use Rattle.book.proofs.Entries.{entering-ready}
 use Rattle.book.proofs.Moves.{moved-waits, moved-entry, new-entry}
 use Rattle.book.proofs.Queue.{Queued, waits-past, entered-step, entered-offer, total-split}
 use Rattle.book.proofs.Traced.{Traced, traced-step}
-use Rattle.book.proofs.Spans.{span, AllRegulated, bucket-step, regulated-step}
+use Rattle.book.proofs.Spans.{span, AllRegulated, bucket-step, regulated-start, regulated-step}
 use Rattle.book.proofs.Charge.{passed, charge}
 use Rattle.book.proofs.Interference.{passes}
 
@@ -76,6 +76,16 @@ module _ (p : Plan) (ok : PlanOk p) (f : ℕ) (in-plan : f < length (p .flows)) 
               charged = omega arith;
             })
       ]
+
+  pub pace-start : Pace p (start p) f T H
+  pace-start =
+      record {
+        from = 0;
+        begun = omega arith;
+        due = λ l m. elim m [ ];
+        turn = fresh (start p) (regulated-start p ok);
+        timely = λ l m. elim m [ ];
+      }
 
   module _ (b : Book) (pace : Pace p b f T H) where
     -- the head's time isn't over
