@@ -67,7 +67,7 @@ Sound p f c D (placed e (W x y)) = InFirst p f c D e x y ⊎ InLater p f c D e x
 Sound p f c D (left e t x y) = Gone p f c D e t x y
 
 -- how far a packet has come in its row
-abbrev along : Plan → Flow → (x y : ℕ) → ℕ
+abbrev pub along : Plan → Flow → (x y : ℕ) → ℕ
 along p f x y = cond (eqb (rowsDone (p .sy) f y) 0) (offset (p .sx) (f .xs) x) (lap (p .sx) (f .xd) x)
 
 -- how far a packet has come: rows, then columns; above all once it has left
@@ -110,11 +110,24 @@ module _ (p : Plan) (f : Flow) (ok : FlowOk (p .sx) (p .sy) f) where
       let apart : offset (p .sx) (f .xs) x ≢ ΔX (p .sx) f = λ e. other (offset-one (p .sx) (f .xs) x (f .xd) (ok .xs-on) l (ok .xd-on) e) in
       omega arith
 
-  along-first : (x y : ℕ) → r y ≡ 0 → along p f x y ≡ offset (p .sx) (f .xs) x
+  pub along-first : (x y : ℕ) → r y ≡ 0 → along p f x y ≡ offset (p .sx) (f .xs) x
   along-first x y e = rw (eq-eqb (r y) 0 e)
 
-  along-later : (x y : ℕ) → 1 ≤ r y → along p f x y ≡ lap (p .sx) (f .xd) x
+  pub along-later : (x y : ℕ) → 1 ≤ r y → along p f x y ≡ lap (p .sx) (f .xd) x
   along-later x y l = rw (ne-eqb (r y) 0 (omega arith))
+
+  along-most : (x y : ℕ) → x < p .sx → along p f x y ≤ p .sx
+  along-most x y l =
+      elim (ℕ-discrete (r y) 0) [
+        | yes e ↦ rw (eq-eqb (r y) 0 e) (omega (arith, offset-below (p .sx) (f .xs) x (ok .xs-on) l))
+        | no e ↦ rw (ne-eqb (r y) 0 e) (lap-most (p .sx) (f .xd) x (ok .xd-on) l)
+      ]
+
+  -- a placed packet isn't past its row
+  pub progress-row : (c D e : ℕ) (at : Place) → Sound p f c D (placed e at) → progress p f (placed e at) ≤ r (rowOf at) * suc (p .sx) + p .sx
+  progress-row c D e (N x y) h = omega arith
+  progress-row c D e (W x y) (inl h) = omega (arith, along-most x y (h .column))
+  progress-row c D e (W x y) (inr h) = omega (arith, along-most x y (h .column))
 
   -- a step leads to the stage s, with progress more than n
   pub record Leads (c D n : ℕ) (s : Stage) : Type 0 where
@@ -248,6 +261,12 @@ module _ (p : Plan) (f : Flow) (ok : FlowOk (p .sx) (p .sy) f) where
     where
       more′ : {n : ℕ} {s : Stage} → Leads c 0 n s → Leads c 0 0 s
       more′ h = record { sound = h .sound; rises = omega (arith, h .rises) }
+
+  -- a place is a register of the torus
+  pub placed-on : (c D e : ℕ) (at : Place) → Sound p f c D (placed e at) → (columnOf at < p .sx) × (rowOf at < p .sy)
+  placed-on c D e (N x y) h = (rw (h .column) (ok .xd-on), h .row)
+  placed-on c D e (W x y) (inl h) = (h .column, rw (h .row) (ok .ys-on))
+  placed-on c D e (W x y) (inr h) = (h .column, h .row)
 
   -- an entered packet has made progress, and entered in an earlier cycle
   pub entered-progress : (c D : ℕ) (s : Stage) → Sound p f c D s → isWaiting s ≡ false → 1 ≤ progress p f s

@@ -51,6 +51,15 @@ once-in (suc n) k l m =
 pub entered-offer : (b : Book) (f g : ℕ) → enteredOf (offered b f) g ≡ enteredOf b g
 entered-offer b f g = count-append (enteredFor g) (b .lines) (offeredLine b f ∷ []) ∙ rw (and-false (eqb f g)) (omega arith)
 
+-- each line of a flow waits or has an entry
+pub total-split : (b : Book) (f : ℕ) → totalOf b f ≡ enteredOf b f + waitingOf b f
+total-split b f = count-sum (ofFlow f) (enteredFor f) (waitsFor f) (b .lines) (λ l m. either (ofFlow f l) (isWaiting (l .stage)))
+  where
+    either : (s w : Bool) → one s ≡ one (s && not w) + one (s && w)
+    either true true = refl
+    either true false = refl
+    either false w = refl
+
 module _ (b : Book) (q : Queued b) where
   -- the flow's lines with a given serial
   with-serial : (f k : ℕ) → count (λ l. ofFlow f l && eqb (l .serial) k) (b .lines) ≡ count (λ i. eqb i k) (tabulate (totalOf b f) (λ i. i + 1))

@@ -41,6 +41,12 @@ none-within a n = elim (decLe a n) [ yes l ↦ rw (le-ltb n a l) (and-false (leb
 abbrev pub AllRegulated : Plan → Book → Type 0
 AllRegulated p b = (f : ℕ) → f < length (p .flows) → Regulated ((flowAt p f) .burst) ((flowAt p f) .period) (bucketAt b f) (b .clock) (span b f)
 
+-- rule 4
+pub bucket-step : (p : Plan) (b : Book) (f : ℕ) → f < length (p .flows)
+    → bucketAt (stepped p b) f ≡ afterCycle ((flowAt p f) .burst) ((flowAt p f) .period) (enters p b f) (bucketAt b f)
+bucket-step p b f l =
+    getD-tabulate (length (p .flows)) (λ g. afterCycle ((flowAt p g) .burst) ((flowAt p g) .period) (enters p b g) (bucketAt b g)) f (fullBucket 0) l
+
 module _ (p : Plan) (ok : PlanOk p) where
   pub regulated-start : AllRegulated p (start p)
   regulated-start f l =
@@ -74,7 +80,7 @@ module _ (p : Plan) (ok : PlanOk p) where
               ]
 
       -- the cycle of the step
-      span-new : (f a : ℕ) → a ≤ b .clock → span (stepped p b) f a (b .clock + 1) ≡ span b f a (b .clock) + one (enters p b f)
+      pub span-new : (f a : ℕ) → a ≤ b .clock → span (stepped p b) f a (b .clock + 1) ≡ span b f a (b .clock) + one (enters p b f)
       span-new f a l =
           count-map (λ k. ofFlow f k && enteredIn a (b .clock + 1) (k .stage)) (move p b) (b .lines)
           ∙ count-sum (λ k. ofFlow f k && enteredIn a (b .clock + 1) (moveStage p b k (k .stage))) (λ k. ofFlow f k && enteredIn a (b .clock) (k .stage)) (λ k. ofFlow f k && goes p b k) (b .lines)
@@ -108,7 +114,7 @@ module _ (p : Plan) (ok : PlanOk p) where
 
       pub regulated-step : AllRegulated p (stepped p b)
       regulated-step f l =
-          rw (getD-tabulate (length (p .flows)) (λ g. afterCycle ((flowAt p g) .burst) ((flowAt p g) .period) (enters p b g) (bucketAt b g)) f (fullBucket 0) l)
+          rw (bucket-step p b f l)
           (cycle _ _ (bucketAt b f) (b .clock) (span b f) (held f l) (enters p b f) (λ e. entering-ready p b f e .token) (span (stepped p b) f)
           (span-old f) (span-new f) (span-none f))
         where

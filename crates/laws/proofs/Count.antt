@@ -13,6 +13,10 @@ use Rattle.laws.specs.Count.{one, count, any, keep, joinBelow}
 use Rattle.laws.proofs.Cases.{test}
 use Rattle.laws.proofs.Sum.{sum-same}
 
+pub one-most : (t : Bool) → one t ≤ 1
+one-most true = omega arith
+one-most false = omega arith
+
 module _ {A : Type 0} where
   -- a member of a list with x at its end
   pub mem-snoc : {y x : A} (l : List A) → Mem y (l ++ (x ∷ [])) → Mem y l ⊎ (y ≡ x)
