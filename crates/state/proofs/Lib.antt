@@ -1,1 +1,3 @@
 -- The laws of the state and its words.
+pub mod Words
+pub mod Read
