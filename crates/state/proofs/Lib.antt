@@ -1,3 +1,5 @@
 -- The laws of the state and its words.
 pub mod Words
 pub mod Read
+pub mod View
+pub mod Forms
