@@ -3,3 +3,4 @@ pub mod Words
 pub mod Read
 pub mod View
 pub mod Forms
+pub mod Again

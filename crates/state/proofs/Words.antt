@@ -80,7 +80,7 @@ module _ (s : State) where
       → Stands 0 l 0 (headerWords (s .plan) (s .clock))
       → ((f : ℕ) → f < length (s .plan .flows) → Stands 0 l (flowPlace f) (flowWords (flowAt (s .plan) f) (tallyAt s f)))
       → ((x y : ℕ) → x < s .plan .sx → y < s .plan .sy
-        → Stands 0 l (routerPlace (length (s .plan .flows)) (s .plan .sx) x y) (cellWords (cellAt s x y)))
+      → Stands 0 l (routerPlace (length (s .plan .flows)) (s .plan .sx) x y) (cellWords (cellAt s x y)))
       → Stands 0 l 0 (stateWords s)
   unfolding stateWords
   words-stand l room first each routers =
