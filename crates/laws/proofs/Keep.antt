@@ -80,11 +80,6 @@ module _ {A : Type 0} where
         | inr e ↦ rw (e, none-count t l e)
       ]
 
-  -- equal lists, joined alike
-  pub join-same : (f g : ℕ → List A) (n : ℕ) → ((i : ℕ) → i < n → f i ≡ g i) → joinBelow n f ≡ joinBelow n g
-  join-same f g zero h = refl
-  join-same f g (suc n) h = rw (join-same f g n (λ i l. h i (omega arith)), h n (omega arith))
-
   -- what keeps the empty list and joins is taken into each of the joined lists
   pub join-through : {B : Type 0} (h : List A → List B) → h [] ≡ [] → ((l m : List A) → h (l ++ m) ≡ h l ++ h m)
       → (n : ℕ) (f : ℕ → List A) → h (joinBelow n f) ≡ joinBelow n (λ i. h (f i))
@@ -95,7 +90,7 @@ module _ {A : Type 0} where
   map-append f [] m = refl
   map-append f (z ∷ l) m = rw (map-append f l m)
 
-  pub length-join : (n : ℕ) (f : ℕ → List A) → length (joinBelow n f) ≡ sumBelow n (λ i. length (f i))
+  pub join-length : (n : ℕ) (f : ℕ → List A) → length (joinBelow n f) ≡ sumBelow n (λ i. length (f i))
   unfolding sumBelow
-  length-join zero f = refl
-  length-join (suc n) f = rw (length-append (joinBelow n f) (f n), length-join n f)
+  join-length zero f = refl
+  join-length (suc n) f = rw (length-append (joinBelow n f) (f n), join-length n f)

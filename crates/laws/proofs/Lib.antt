@@ -4,6 +4,7 @@ pub mod Bounded
 pub mod Sum
 pub mod Count
 pub mod Keep
-pub mod Grid
 pub mod Parts
+pub mod Stands
+pub mod Grid
 pub mod Turns

@@ -13,7 +13,8 @@ use Rattle.laws.specs.Count.{one, keep, joinBelow}
 use Rattle.laws.proofs.Cases.{test}
 use Rattle.laws.proofs.Cases as Cases
 use Rattle.laws.proofs.Sum.{sum-same}
-use Rattle.laws.proofs.Keep.{join-same, join-through, map-append, length-join}
+use Rattle.laws.proofs.Stands.{join-same}
+use Rattle.laws.proofs.Keep.{join-through, map-append, join-length}
 use Rattle.flow.specs.declared.Port.the-variants.{South}
 use Rattle.flow.specs.Plan.{Plan, flowAt}
 use Rattle.book.specs.Line.{Stage, waiting, placed, left, Line, leftAt, exitOf}
@@ -76,7 +77,7 @@ module _ (p : Plan) (b : Book) (ord : Orderly p b) where
   pub delivers-follow : stepDelivers (bookState p b) ≡ wordsOf (deliveries p b)
   unfolding stepDelivers deliveries bookState
   delivers-follow =
-      join-same _ _ (p .sy) (λ y ly. join-same _ _ (p .sx) (λ x lx. router x y lx ly .words) ∙ sym (through (p .sx) (λ x. leavers p b x y)))
+      join-same (p .sy) _ _ (λ y ly. join-same (p .sx) _ _ (λ x lx. router x y lx ly .words) ∙ sym (through (p .sx) (λ x. leavers p b x y)))
       ∙ sym (through (p .sy) (λ y. joinBelow (p .sx) (λ x. leavers p b x y)))
     where
       through : (n : ℕ) (f : ℕ → List Line) → wordsOf (map deliveryOf (joinBelow n f)) ≡ joinBelow n (λ i. wordsOf (map deliveryOf (f i)))
@@ -87,6 +88,6 @@ module _ (p : Plan) (b : Book) (ord : Orderly p b) where
   pub count-follows : exitCount (bookState p b) ≡ length (deliveries p b)
   unfolding exitCount deliveries bookState
   count-follows =
-      sum-same _ _ (p .sy) (λ y ly. sum-same _ _ (p .sx) (λ x lx. router x y lx ly .count) ∙ sym (length-join (p .sx) (λ x. leavers p b x y)))
-      ∙ sym (length-join (p .sy) (λ y. joinBelow (p .sx) (λ x. leavers p b x y)))
+      sum-same _ _ (p .sy) (λ y ly. sum-same _ _ (p .sx) (λ x lx. router x y lx ly .count) ∙ sym (join-length (p .sx) (λ x. leavers p b x y)))
+      ∙ sym (join-length (p .sy) (λ y. joinBelow (p .sx) (λ x. leavers p b x y)))
       ∙ sym (length-map (exitsOf p (b .clock) ((stepped p b) .lines)) deliveryOf)

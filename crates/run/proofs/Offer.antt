@@ -30,7 +30,7 @@ use Rattle.run.proofs.View.{tally-at}
 pub start-follows : (p : Plan) → bookState p (start p) ≡ resetState p
 unfolding bookState registerOf
 start-follows p =
-    let tallies = tabulate-same (tallyOf (start p)) (λ f. freshTally ((flowAt p f) .burst)) (length (p .flows)) (λ f l. tally f l) in
+    let tallies = tabulate-same (length (p .flows)) (tallyOf (start p)) (λ f. freshTally ((flowAt p f) .burst)) (λ f l. tally f l) in
     λ i. record { plan = p; clock = 0; tallies = tallies i; cells = (resetState p) .cells }
   where
     tally : (f : ℕ) → f < length (p .flows) → tallyOf (start p) f ≡ freshTally ((flowAt p f) .burst)
@@ -72,5 +72,5 @@ module _ (p : Plan) (b : Book) (f : ℕ) (below : f < length (p .flows)) where
       let old = tabulate (length (p .flows)) (tallyOf b) in
       let here = ap (λ (t : Tally). set old f (record { bucket = t .bucket; entered = t .entered; waiting = t .waiting + 1 })) (tally-at p b f below) in
       let tallies = here ∙ is-tabulate (set old f after) (length (p .flows)) (tallyOf (offered b f)) (freshTally 0) (length-set old f after ∙ length-tabulate (length (p .flows)) (tallyOf b)) offer-tally in
-      let cells = grid-same (cellOf b) (cellOf (offered b f)) (p .sx) (p .sy) (λ x y lx ly. λ i. record { west = offer-register (W x y) i; north = offer-register (N x y) i }) in
+      let cells = grid-same (p .sx) (p .sy) (cellOf b) (cellOf (offered b f)) (λ x y lx ly. λ i. record { west = offer-register (W x y) i; north = offer-register (N x y) i }) in
       λ i. record { plan = p; clock = b .clock; tallies = tallies i; cells = cells i }

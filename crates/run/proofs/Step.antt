@@ -130,6 +130,6 @@ module _ (p : Plan) (b : Book) (ord : Orderly p b) where
   pub step-follows : stepState (bookState p b) ≡ bookState p (stepped p b)
   unfolding stepState bookState
   step-follows =
-      let tallies = tabulate-same (nextTally (bookState p b)) (tallyOf (stepped p b)) (length (p .flows)) next-tally in
-      let cells = grid-same (nextCell (bookState p b)) (cellOf (stepped p b)) (p .sx) (p .sy) next-cell in
+      let tallies = tabulate-same (length (p .flows)) (nextTally (bookState p b)) (tallyOf (stepped p b)) next-tally in
+      let cells = grid-same (p .sx) (p .sy) (nextCell (bookState p b)) (cellOf (stepped p b)) next-cell in
       λ i. record { plan = p; clock = b .clock + 1; tallies = tallies i; cells = cells i }

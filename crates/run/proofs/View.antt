@@ -38,7 +38,7 @@ module _ (p : Plan) (b : Book) where
 
   pub cell-at : (x y : ℕ) → x < p .sx → y < p .sy → cellAt (bookState p b) x y ≡ cellOf b x y
   unfolding bookState
-  cell-at x y l k = getD-grid (p .sx) (p .sy) (cellOf b) x y _ l k
+  cell-at x y l k = getD-grid (p .sx) (p .sy) (cellOf b) _ x y l k
 
   -- a register that holds no packet
   pub empty-register : (at : Place) → isEmpty (registerOf b at) ≡ not (full b at)
