@@ -20,11 +20,12 @@ use Rattle.laws.proofs.Count.{any-true, count-any}
 use Rattle.laws.proofs.Keep.{keep-same, keep-none, keep-one}
 use Rattle.flow.specs.declared.Flow.{Flow}
 use Rattle.flow.specs.declared.Port.{Port}
+use Rattle.flow.specs.declared.Port.the-variants.{East, South}
 use Rattle.flow.specs.Offsets.{portOf, sameClient}
 use Rattle.flow.specs.Plan.{Plan, flowAt}
 use Rattle.book.specs.Line.{Stage, waiting, placed, left, Line, isWaiting, entryOf}
 use Rattle.book.specs.Book.{Book, ofFlow, enteredOf}
-use Rattle.book.specs.Cycle.{deflected, lowest, move, moveStage}
+use Rattle.book.specs.Cycle.{samePort, deflected, lowest, move}
 use Rattle.book.specs.Cycle
 use Rattle.book.proofs.Path.{Sound}
 use Rattle.book.proofs.Moves.{goes, new-entry}
@@ -40,11 +41,20 @@ use Rattle.run.specs.View.{packetOf, holding, bookState}
 use Rattle.run.proofs.View.{Orderly, tally-at}
 use Rattle.run.proofs.Entry.{enters-same}
 use Rattle.run.proofs.Sends.{atPort}
-use Rattle.run.proofs.Outgoing.{entersBy}
+use Rattle.run.proofs.Outgoing.{entersBy, Entering, entering-parts}
 
 -- a flow that enters by this port
 abbrev admits : State → (x y : ℕ) → Port → ℕ → Bool
 admits s x y o f = uses s x y o f && Entry.enters s f
+
+eqb-sym : (a b : ℕ) → eqb a b ≡ eqb b a
+eqb-sym a b = elim (ℕ-discrete a b) [ yes e ↦ rw (eq-eqb a b e, eq-eqb b a (sym e)) | no e ↦ rw (ne-eqb a b e, ne-eqb b a (λ u. e (sym u))) ]
+
+port-sym : (o o′ : Port) → isPort o o′ ≡ samePort o′ o
+port-sym East East = refl
+port-sym East South = refl
+port-sym South East = refl
+port-sym South South = refl
 
 module _ (s : State) (x y : ℕ) (o : Port) where
   client-none : (n : ℕ) → anyBelow n (admits s x y o) ≡ false → clientBelow s x y o n ≡ Empty
@@ -83,16 +93,24 @@ module _ (p : Plan) (b : Book) (o : Orderly p b) where
     abbrev s : State
     s = bookState p b
 
+    -- flow g's port is this one
+    abbrev takes : ℕ → Bool
+    takes g = atPort x y port ((flowAt p g) .xs) ((flowAt p g) .ys) (portOf (p .sx) (flowAt p g))
+
+    uses-same : (g : ℕ) → uses s x y port g ≡ takes g
+    unfolding bookState
+    uses-same g =
+        let φ : Flow = flowAt p g in
+        rw (eqb-sym (φ .xs) x, eqb-sym (φ .ys) y, port-sym port (portOf (p .sx) φ))
+
     -- no flow enters by this port
     none-enters : anyBelow (length (p .flows)) (admits s x y port) ≡ false → keep (entersBy p b x y port) (b .lines) ≡ []
-    unfolding bookState
     none-enters h =
         keep-none (entersBy p b x y port) (b .lines)
         (λ l m.
         let below = o .traced .known l m in
-        out (isWaiting (l .stage)) (Cycle.enters p b (l .flow)) (lowest b l)
-        (atPort x y port ((flowAt p (l .flow)) .xs) ((flowAt p (l .flow)) .ys) (portOf (p .sx) (flowAt p (l .flow))))
-        (rw (← (enters-same p b o (l .flow) below)) (none-at (admits s x y port) (length (p .flows)) h (l .flow) below)))
+        out (isWaiting (l .stage)) (Cycle.enters p b (l .flow)) (lowest b l) (takes (l .flow))
+        (rw (← (uses-same (l .flow)), ← (enters-same p b o (l .flow) below)) (none-at (admits s x y port) (length (p .flows)) h (l .flow) below)))
       where
         out : (w en low at : Bool) → at && en ≡ false → (w && (en && low)) && at ≡ false
         out w en low false h = and-false (w && (en && low))
@@ -103,38 +121,24 @@ module _ (p : Plan) (b : Book) (o : Orderly p b) where
     -- flow f does
     module _ (f : ℕ) (below : f < length (p .flows)) (yes′ : admits s x y port f ≡ true) where
       f-enters : Cycle.enters p b f ≡ true
-      unfolding bookState
       f-enters = sym (enters-same p b o f below) ∙ Cases.and-true (uses s x y port f) (Entry.enters s f) yes′ .1
 
-      f-uses : atPort x y port ((flowAt p f) .xs) ((flowAt p f) .ys) (portOf (p .sx) (flowAt p f)) ≡ true
-      unfolding bookState
-      f-uses = Cases.and-true (uses s x y port f) (Entry.enters s f) yes′ .0
-
-      -- where a flow uses the port, it is a flow of this client
-      at-client : (g : ℕ) → atPort x y port ((flowAt p g) .xs) ((flowAt p g) .ys) (portOf (p .sx) (flowAt p g)) ≡ true
-          → ((flowAt p g) .xs ≡ x) × ((flowAt p g) .ys ≡ y)
-      at-client g e =
-          let φ : Flow = flowAt p g in
-          let u = Cases.and-true (eqb (φ .xs) x && eqb (φ .ys) y) (isPort port (portOf (p .sx) φ)) e in
-          let v = Cases.and-true (eqb (φ .xs) x) (eqb (φ .ys) y) (u .0) in
-          (eqb-true _ _ (v .0), eqb-true _ _ (v .1))
+      f-takes : takes f ≡ true
+      f-takes = sym (uses-same f) ∙ Cases.and-true (uses s x y port f) (Entry.enters s f) yes′ .0
 
       who-enters : (l : Line) → entersBy p b x y port l ≡ ofFlow f l && goes p b l
       who-enters l =
           elim (ℕ-discrete (l .flow) f) [
-            | yes e ↦ rw (eq-eqb (l .flow) f e, ap (λ (g : ℕ). atPort x y port ((flowAt p g) .xs) ((flowAt p g) .ys) (portOf (p .sx) (flowAt p g))) e ∙ f-uses) (and-true (goes p b l))
-            | no e ↦ rw (ne-eqb (l .flow) f e) (elim (test (entersBy p b x y port l)) [ inr n ↦ n | inl n ↦ absurd (e (other n)) ])
+            | yes e ↦ rw (eq-eqb (l .flow) f e, ap takes e ∙ f-takes) (and-true (goes p b l))
+            | no e ↦ rw (ne-eqb (l .flow) f e) (elim (test (entersBy p b x y port l)) [ inr n ↦ n | inl n ↦ absurd (e (other (entering-parts p b x y port l n))) ])
           ]
         where
-          other : entersBy p b x y port l ≡ true → l .flow ≡ f
-          other n =
-              let φ : Flow = flowAt p (l .flow) in
-              let h = Cases.and-true (goes p b l) (atPort x y port (φ .xs) (φ .ys) (portOf (p .sx) φ)) n in
-              let g = Cases.and-true (isWaiting (l .stage)) (Cycle.enters p b (l .flow) && lowest b l) (h .0) in
-              let k = Cases.and-true (Cycle.enters p b (l .flow)) (lowest b l) (g .1) in
-              let mine = at-client (l .flow) (h .1) in
-              let its = at-client f f-uses in
-              one-enters p b (l .flow) f (k .0) f-enters (client-same φ (flowAt p f) (mine .0 ∙ sym (its .0)) (mine .1 ∙ sym (its .1)))
+          other : Entering p b x y port l → l .flow ≡ f
+          other h =
+              let φ : Flow = flowAt p f in
+              let u = Cases.and-true (eqb x (φ .xs) && eqb y (φ .ys)) (samePort (portOf (p .sx) φ) port) f-takes in
+              let v = Cases.and-true (eqb x (φ .xs)) (eqb y (φ .ys)) (u .0) in
+              one-enters p b (l .flow) f (h .enter) f-enters (client-same (flowAt p (l .flow)) φ (sym (h .column) ∙ eqb-true _ _ (v .0)) (sym (h .row) ∙ eqb-true _ _ (v .1)))
 
       -- one line, with the packet that the client sends
       one-sent : (l : Line) × (keep (entersBy p b x y port) (b .lines) ≡ l ∷ []) × (packetOf (move p b l) ≡ entering s f)
@@ -150,20 +154,13 @@ module _ (p : Plan) (b : Book) (o : Orderly p b) where
             packet-enters (l .0) (l .1) (h .1) ∙ rw (eqb-true (l .0 .flow) f (h .0), tally-at p b f below),
           )
 
-    pub record Entrant : Type 0 where
-      pub holds : clientSends s x y port ≡ holding (map (move p b) (keep (entersBy p b x y port) (b .lines)))
-      pub single : length (keep (entersBy p b x y port) (b .lines)) ≤ 1
-
-    pub entrant : Entrant
+    pub entrant : clientSends s x y port ≡ holding (map (move p b) (keep (entersBy p b x y port) (b .lines)))
     unfolding bookState
     entrant =
         elim (test (anyBelow (length (p .flows)) (admits s x y port))) [
-          | inr none ↦ let e = none-enters none in record { holds = client-none s x y port (length (p .flows)) none ∙ rw e; single = rw e (omega arith) }
+          | inr none ↦ client-none s x y port (length (p .flows)) none ∙ rw (none-enters none)
           | inl some ↦
               let f = first-below (admits s x y port) (length (p .flows)) some in
               let l = one-sent (f .0) (f .1) (f .2) in
-              record {
-                holds = client-first s x y port (length (p .flows)) (f .0) (f .1) (f .2) (f .3) ∙ rw (l .1) (sym (l .2));
-                single = rw (l .1) (omega arith);
-              }
+              client-first s x y port (length (p .flows)) (f .0) (f .1) (f .2) (f .3) ∙ rw (l .1) (sym (l .2))
         ]

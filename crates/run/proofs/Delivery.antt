@@ -27,7 +27,6 @@ use Rattle.cycle.specs.Calls.{exitCount}
 use Rattle.run.specs.View.{bookState}
 use Rattle.run.proofs.View.{Orderly}
 use Rattle.run.proofs.Sends.{isHome, moved, left-tells}
-use Rattle.run.proofs.Outgoing.{sentBy}
 use Rattle.run.proofs.Step.{new-lines, southbound}
 
 left-exit : (c x y : ℕ) (s : Stage) → leftAt c x y s ≡ true → exitOf s ≡ c

@@ -23,24 +23,20 @@ use Rattle.flow.specs.Offsets.{portOf}
 use Rattle.flow.specs.Plan.{Plan, flowAt, FlowOk}
 use Rattle.book.specs.Line.{Place, W, N, columnOf, rowOf, samePlace, Stage, waiting, placed, left, Line, standsIn, isWaiting, entryOf}
 use Rattle.book.specs.Book.{Book}
-use Rattle.book.specs.Cycle.{full, westTurns, output, deflects, deflected, isOpen, enters, lowest, moveStage, move}
+use Rattle.book.specs.Cycle.{samePort, westTurns, deflects, deflected, isOpen, enters, lowest, moveStage, leaves, leavesBy, move}
 use Rattle.book.proofs.Moves.{goes, moved-entry}
 use Rattle.book.proofs.Entries.{entering-ready}
 use Rattle.book.proofs.Traced.{line-ok}
 use Rattle.state.specs.declared.Register.{Register}
 use Rattle.state.specs.declared.Register.the-variants.{Empty, Packet}
-use Rattle.cycle.specs.Entry.{isPort}
 use Rattle.cycle.specs.Router as Router
 use Rattle.run.specs.View.{packetOf, holding, placedIn, registerOf}
 use Rattle.run.proofs.View.{Orderly, line-turns}
-use Rattle.run.proofs.Sends.{Tells, atPort, sends, isHome, moved, eqb-sym}
-
-abbrev pub sentBy : Plan → Book → (x y : ℕ) → Port → Line → Bool
-sentBy p b x y o l = sends p b x y o l (l .stage)
+use Rattle.run.proofs.Sends.{atPort}
 
 -- the lines that the router in column x and row y sends by port o
 abbrev pub outgoing : Plan → Book → (x y : ℕ) → Port → List Line
-outgoing p b x y o = keep (sentBy p b x y o) (b .lines)
+outgoing p b x y o = keep (leavesBy p b x y o) (b .lines)
 
 -- a line that enters there
 abbrev pub entersBy : Plan → Book → (x y : ℕ) → Port → Line → Bool
@@ -52,7 +48,7 @@ entersBy p b x y o l =
 abbrev pub onward : Bool → Register → Register
 onward d r = cond d (Router.deflected r) r
 
-port-same : (o o′ : Port) → isPort o o′ ≡ true → o ≡ o′
+port-same : (o o′ : Port) → samePort o o′ ≡ true → o ≡ o′
 port-same East East e = refl
 port-same East South e = absurd (false≢true e)
 port-same South East e = absurd (false≢true e)
@@ -102,15 +98,30 @@ module _ (p : Plan) (b : Book) (at : Place) where
       (λ l m. packet-moves p b l at (kept (placedIn at) (b .lines) m .1))
 
 module _ (p : Plan) (b : Book) (x y : ℕ) (o : Port) where
-  abbrev tw : Bool
-  tw = westTurns p b x y
+  -- a line that enters by a port of its client
+  pub record Entering (l : Line) : Type 0 where
+    pub going : goes p b l ≡ true
+    pub waits : isWaiting (l .stage) ≡ true
+    pub enter : enters p b (l .flow) ≡ true
+    pub column : x ≡ (flowAt p (l .flow)) .xs
+    pub row : y ≡ (flowAt p (l .flow)) .ys
+    pub port : portOf (p .sx) (flowAt p (l .flow)) ≡ o
 
-  -- by which port a line in W, and one in N, goes
-  abbrev fromWest : Bool
-  fromWest = isPort o (cond tw South East)
-
-  abbrev fromNorth : Bool
-  fromNorth = isPort o (cond tw East South)
+  pub entering-parts : (l : Line) → entersBy p b x y o l ≡ true → Entering l
+  entering-parts l e =
+      let φ : Flow = flowAt p (l .flow) in
+      let h = Cases.and-true (goes p b l) (atPort x y o (φ .xs) (φ .ys) (portOf (p .sx) φ)) e in
+      let g = Cases.and-true (isWaiting (l .stage)) (enters p b (l .flow) && lowest b l) (h .0) in
+      let u = Cases.and-true (eqb x (φ .xs) && eqb y (φ .ys)) (samePort (portOf (p .sx) φ) o) (h .1) in
+      let v = Cases.and-true (eqb x (φ .xs)) (eqb y (φ .ys)) (u .0) in
+      record {
+        going = h .0;
+        waits = g .0;
+        enter = Cases.and-true (enters p b (l .flow)) (lowest b l) (g .1) .0;
+        column = eqb-true _ _ (v .0);
+        row = eqb-true _ _ (v .1);
+        port = port-same _ _ (u .1);
+      }
 
   -- a closed port lets no line in
   pub closed : isOpen p b x y o ≡ false → (l : Line) → entersBy p b x y o l ≡ false
@@ -118,35 +129,27 @@ module _ (p : Plan) (b : Book) (x y : ℕ) (o : Port) where
       elim (test (entersBy p b x y o l)) [
         | inr e ↦ e
         | inl e ↦
-            let φ : Flow = flowAt p (l .flow) in
-            let h = Cases.and-true (goes p b l) (atPort x y o (φ .xs) (φ .ys) (portOf (p .sx) φ)) e in
-            let g = Cases.and-true (isWaiting (l .stage)) (enters p b (l .flow) && lowest b l) (h .0) in
-            let n = Cases.and-true (enters p b (l .flow)) (lowest b l) (g .1) in
-            let u = Cases.and-true (eqb (φ .xs) x && eqb (φ .ys) y) (isPort o (portOf (p .sx) φ)) (h .1) in
-            let v = Cases.and-true (eqb (φ .xs) x) (eqb (φ .ys) y) (u .0) in
-            absurd (false≢true (sym shut
-            ∙ rw (← (eqb-true (φ .xs) x (v .0)), ← (eqb-true (φ .ys) y (v .1)), port-same o (portOf (p .sx) φ) (u .1)) (entering-ready p b (l .flow) (n .0) .opened)))
+            let h = entering-parts l e in
+            absurd (false≢true (sym shut ∙ rw (h .column, h .row, ← (h .port)) (entering-ready p b (l .flow) (h .enter) .opened)))
       ]
 
-  -- a line is sent from W, from N or by its client
-  pub split : (l : Line) (s : Stage) → (standsIn (W x y) s ≡ true → eqb x ((flowAt p (l .flow)) .xd) ≡ tw)
-      → sends p b x y o l s
-      ≡ (standsIn (W x y) s && fromWest) || (standsIn (N x y) s && fromNorth)
+  -- a line leaves from W, from N or by its client
+  pub split : (l : Line) (s : Stage) → (standsIn (W x y) s ≡ true → eqb x ((flowAt p (l .flow)) .xd) ≡ westTurns p b x y)
+      → leaves p b l x y o s
+      ≡ (standsIn (W x y) s && samePort (cond (westTurns p b x y) South East) o)
+      || (standsIn (N x y) s && samePort (cond (westTurns p b x y) East South) o)
       || ((isWaiting s && (enters p b (l .flow) && lowest b l)) && atPort x y o ((flowAt p (l .flow)) .xs) ((flowAt p (l .flow)) .ys) (portOf (p .sx) (flowAt p (l .flow))))
   split l waiting h = refl
   split l (placed e (W x′ y′)) h =
-      rw (or-false, or-false, eqb-sym x x′, eqb-sym y y′)
-      (elim (ℕ-discrete x x′) [
-        | no u ↦ rw (ne-eqb x′ x (λ v. u (sym v)))
-        | yes u ↦ elim (ℕ-discrete y y′) [
-          | no v ↦ rw (ne-eqb y′ y (λ w. v (sym w)), and-false)
-          | yes v ↦ rw (← u, ← v, eq-eqb x x refl, eq-eqb y y refl, h (rw (eq-eqb x x′ u, eq-eqb y y′ v)))
-        ]
+      rw (or-false, or-false)
+      (elim (test (eqb x x′ && eqb y y′)) [
+        | inr u ↦ rw u
+        | inl u ↦ rw (← (h u), eqb-true x x′ (Cases.and-true (eqb x x′) (eqb y y′) u .0))
       ])
   split l (placed e (N x′ y′)) h =
-      rw (or-false, eqb-sym x x′, eqb-sym y y′)
-      (elim (ℕ-discrete x x′) [
-        | no u ↦ rw (ne-eqb x′ x (λ v. u (sym v)))
-        | yes u ↦ elim (ℕ-discrete y y′) [ no v ↦ rw (ne-eqb y′ y (λ w. v (sym w)), and-false) | yes v ↦ rw (← u, ← v) ]
+      rw or-false
+      (elim (test (eqb x x′ && eqb y y′)) [
+        | inr u ↦ rw u
+        | inl u ↦ let v = Cases.and-true (eqb x x′) (eqb y y′) u in rw (eqb-true x x′ (v .0), eqb-true y y′ (v .1))
       ])
   split l (left e t x′ y′) h = refl

@@ -19,21 +19,20 @@ use Rattle.flow.specs.declared.Port.the-variants.{East, South}
 use Rattle.flow.specs.Plan.{Plan, flowAt}
 use Rattle.book.specs.Line.{Place, W, N, Line}
 use Rattle.book.specs.Book.{Book}
-use Rattle.book.specs.Cycle.{full, turns, westTurns, deflects, isOpen, move}
+use Rattle.book.specs.Cycle.{samePort, full, turns, westTurns, deflects, isOpen, leavesBy, move}
 use Rattle.state.specs.declared.Register.{Register}
 use Rattle.state.specs.declared.Register.the-variants.{Empty, Packet}
 use Rattle.cycle.specs.Router.{isEmpty, firstOf, sentEast, sentSouth}
-use Rattle.cycle.specs.Entry.{isPort, clientSends}
+use Rattle.cycle.specs.Entry.{clientSends}
 use Rattle.cycle.specs.Step.{eastward, southward}
 use Rattle.run.specs.View.{holding, placedIn, registerOf, bookState}
 use Rattle.run.proofs.View.{Orderly, cell-at, empty-register, west-turns, line-turns}
-use Rattle.run.proofs.Outgoing.{sentBy, outgoing, entersBy, onward, network, closed, split}
+use Rattle.run.proofs.Outgoing.{outgoing, entersBy, onward, network, closed, split}
 use Rattle.run.proofs.Client.{entrant}
 
--- the router in column x and row y sends this register's packet by port o
-pub record Carries (p : Plan) (b : Book) (x y : ℕ) (o : Port) (r : Register) : Type 0 where
-  pub holds : r ≡ holding (map (move p b) (outgoing p b x y o))
-  pub single : length (outgoing p b x y o) ≤ 1
+-- the packet that the router in column x and row y sends by port o in the book
+abbrev pub sentPacket : Plan → Book → (x y : ℕ) → Port → Register
+sentPacket p b x y o = holding (map (move p b) (outgoing p b x y o))
 
 first-full : (r c : Register) → isEmpty r ≡ false → firstOf r c ≡ r
 first-full Empty c e = absurd (false≢true (sym e))
@@ -57,29 +56,21 @@ module _ (p : Plan) (b : Book) (ord : Orderly p b) (x y : ℕ) where
 
   module _ (o : Port) where
     parts : (l : Line) → Mem l (b .lines)
-        → sentBy p b x y o l
-        ≡ (placedIn (W x y) l && isPort o (cond (westTurns p b x y) South East)) || (placedIn (N x y) l && isPort o (cond (westTurns p b x y) East South))
+        → leavesBy p b x y o l
+        ≡ (placedIn (W x y) l && samePort (cond (westTurns p b x y) South East) o) || (placedIn (N x y) l && samePort (cond (westTurns p b x y) East South) o)
         || entersBy p b x y o l
     parts l m = split p b x y o l (l .stage) (λ e. line-turns p b (ord .apart) x y l m e)
 
     -- the line in one register takes the port
-    by-network : (at : Place) (d : Bool) → deflects p b at ≡ d → ((l : Line) → Mem l (b .lines) → sentBy p b x y o l ≡ placedIn at l)
-        → Carries p b x y o (onward d (registerOf b at))
-    by-network at d defl same =
-        let e = keep-same (sentBy p b x y o) (placedIn at) (b .lines) same in
-        record {
-          holds = rw (e, ← defl) (sym (network p b at));
-          single = rw e (omega (arith, length-keep (placedIn at) (b .lines), ord .apart at));
-        }
+    by-network : (at : Place) (d : Bool) → deflects p b at ≡ d → ((l : Line) → Mem l (b .lines) → leavesBy p b x y o l ≡ placedIn at l)
+        → onward d (registerOf b at) ≡ sentPacket p b x y o
+    by-network at d defl same = rw (keep-same (leavesBy p b x y o) (placedIn at) (b .lines) same, ← defl) (sym (network p b at))
 
     -- a line that enters takes it
-    by-client : ((l : Line) → Mem l (b .lines) → sentBy p b x y o l ≡ entersBy p b x y o l) → Carries p b x y o (clientSends (bookState p b) x y o)
-    by-client same =
-        let e = keep-same (sentBy p b x y o) (entersBy p b x y o) (b .lines) same in
-        let c = entrant p b ord x y o in
-        record { holds = rw e (c .holds); single = rw e (c .single) }
+    by-client : ((l : Line) → Mem l (b .lines) → leavesBy p b x y o l ≡ entersBy p b x y o l) → clientSends (bookState p b) x y o ≡ sentPacket p b x y o
+    by-client same = rw (keep-same (leavesBy p b x y o) (entersBy p b x y o) (b .lines) same) (entrant p b ord x y o)
 
-  pub east : x < p .sx → y < p .sy → Carries p b x y East (eastward (bookState p b) x y)
+  pub east : x < p .sx → y < p .sy → eastward (bookState p b) x y ≡ sentPacket p b x y East
   unfolding eastward sentEast bookState
   east lx ly =
       rw (cell-at p b x y lx ly, west-turns p b (ord .apart) x y)
@@ -96,7 +87,7 @@ module _ (p : Plan) (b : Book) (ord : Orderly p b) (x y : ℕ) where
         ]
       ])
 
-  pub south : x < p .sx → y < p .sy → Carries p b x y South (southward (bookState p b) x y)
+  pub south : x < p .sx → y < p .sy → southward (bookState p b) x y ≡ sentPacket p b x y South
   unfolding southward sentSouth bookState
   south lx ly =
       rw (cell-at p b x y lx ly, west-turns p b (ord .apart) x y)

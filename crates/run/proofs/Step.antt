@@ -12,7 +12,7 @@ use Rattle.laws.specs.Grid.{grid}
 use Rattle.laws.proofs.Cases.{test}
 use Rattle.laws.proofs.Bounded.{getD-tabulate}
 use Rattle.laws.proofs.Count.{count-map, count-sum}
-use Rattle.laws.proofs.Keep.{few, kept, keep-same, keep-both, keep-map}
+use Rattle.laws.proofs.Keep.{few, kept, keep-same, keep-both, keep-map, length-keep}
 use Rattle.laws.proofs.Grid.{tabulate-same, grid-same}
 use Rattle.torus.specs.Ring.{next, previous}
 use Rattle.torus.proofs.Ring.{previous-next}
@@ -23,10 +23,11 @@ use Rattle.flow.specs.Plan.{Plan, flowAt}
 use Rattle.bucket.specs.Regulator.{fullBucket, afterCycle}
 use Rattle.book.specs.Line.{W, N, Stage, Line, isWaiting}
 use Rattle.book.specs.Book.{Book, bucketAt, ofFlow, waitsFor, waitingOf, enteredOf}
-use Rattle.book.specs.Cycle.{enters, lowest, move, stepped}
+use Rattle.book.specs.Cycle.{enters, lowest, leavesBy, move, stepped}
 use Rattle.book.proofs.Moves.{goes, moved-waits}
 use Rattle.book.proofs.Queue.{goes-count, entered-step}
 use Rattle.book.proofs.Traced.{line-ok}
+use Rattle.book.proofs.Outputs.{one-output}
 use Rattle.state.specs.declared.Register.{Register}
 use Rattle.state.specs.declared.Register.the-variants.{Empty, Packet}
 use Rattle.state.specs.declared.Tally.{Tally}
@@ -37,7 +38,7 @@ use Rattle.run.specs.View.{packetOf, holding, placedIn, registerOf, cell
 use Rattle.run.proofs.View.{Orderly, tally-at}
 use Rattle.run.proofs.Entry.{enters-same}
 use Rattle.run.proofs.Sends.{Tells, isHome, moved, east-tells, north-tells}
-use Rattle.run.proofs.Outgoing.{sentBy, outgoing}
+use Rattle.run.proofs.Outgoing.{outgoing}
 use Rattle.run.proofs.Outputs.{east, south}
 
 keep-all : {A : Type 0} (l : List A) → keep (λ x. true) l ≡ l
@@ -51,27 +52,28 @@ module _ (p : Plan) (b : Book) (ord : Orderly p b) where
   new-lines x y o t h k =
       keep-map (λ (l : Line). t (l .stage)) (move p b) (b .lines)
       ∙ ap (map (move p b))
-      (keep-same _ (λ l. sentBy p b x y o l && h (flowAt p (l .flow))) (b .lines)
+      (keep-same _ (λ l. leavesBy p b x y o l && h (flowAt p (l .flow))) (b .lines)
       (λ l m. moved p b x y o t h k l (l .D) (l .stage) (line-ok p (ord .plan-ok) b (ord .traced) l m) (ord .traced .sound l m))
-      ∙ keep-both (sentBy p b x y o) (λ l. h (flowAt p (l .flow))) (b .lines))
+      ∙ keep-both (leavesBy p b x y o) (λ l. h (flowAt p (l .flow))) (b .lines))
 
   module _ (x y : ℕ) (lx : x < p .sx) (ly : y < p .sy) where
     -- the line that goes S from the router, if any
     pub record Southbound (l : Line) : Type 0 where
       pub member : Mem l (b .lines)
-      pub sent : sentBy p b x y South l ≡ true
+      pub sent : leavesBy p b x y South l ≡ true
       pub only : outgoing p b x y South ≡ l ∷ []
       pub held : southward (bookState p b) x y ≡ packetOf (move p b l)
 
     pub southbound : ((outgoing p b x y South ≡ []) × (southward (bookState p b) x y ≡ Empty)) ⊎ ((l : Line) × Southbound l)
     southbound =
         let s = south p b ord x y lx ly in
-        elim (few (outgoing p b x y South) (s .single)) [
-          | inl none ↦ inl (none, s .holds ∙ rw none)
+        let single = one-output p b x y (ord .apart) (ord .queued) South in
+        elim (few (outgoing p b x y South) (omega (arith, length-keep (leavesBy p b x y South) (b .lines)))) [
+          | inl none ↦ inl (none, s ∙ rw none)
           | inr some ↦
               let m : Mem (some .0) (outgoing p b x y South) = rw (some .1) (here refl) in
-              let k = kept (sentBy p b x y South) (b .lines) m in
-              inr (some .0, record { member = k .0; sent = k .1; only = some .1; held = s .holds ∙ rw (some .1) })
+              let k = kept (leavesBy p b x y South) (b .lines) m in
+              inr (some .0, record { member = k .0; sent = k .1; only = some .1; held = s ∙ rw (some .1) })
         ]
 
     -- E reaches the W register to the east
@@ -79,7 +81,7 @@ module _ (p : Plan) (b : Book) (ord : Orderly p b) where
     unfolding registerOf
     west-next =
         rw (new-lines x y East _ (λ f. true) (east-tells p (b .clock) x y lx ly), keep-all (outgoing p b x y East))
-        (sym (east p b ord x y lx ly .holds))
+        (sym (east p b ord x y lx ly))
 
     -- S at the packet's destination is the exit, otherwise S reaches the N register to the south
     north-next : registerOf (stepped p b) (N x (next (p .sy) y)) ≡ cond (exits (bookState p b) x y) Empty (southward (bookState p b) x y)
