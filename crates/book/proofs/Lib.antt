@@ -14,3 +14,5 @@ pub mod Outputs
 pub mod Places
 pub mod Deliveries
 pub mod Kept
+pub mod State
+pub mod Promises

@@ -92,7 +92,7 @@ module _ (b : Book) (q : Queued b) where
   pub waits-past : (l : Line) → Mem l (b .lines) → isWaiting (l .stage) ≡ true → enteredOf b (l .flow) < l .serial
   waits-past l m w = ltb-true (enteredOf b (l .flow)) (l .serial) (sym (q .entered-first l m) ∙ w)
 
-  entered-within : (l : Line) → Mem l (b .lines) → isWaiting (l .stage) ≡ false → l .serial ≤ enteredOf b (l .flow)
+  pub entered-within : (l : Line) → Mem l (b .lines) → isWaiting (l .stage) ≡ false → l .serial ≤ enteredOf b (l .flow)
   entered-within l m w = ltb-false (enteredOf b (l .flow)) (l .serial) (sym (q .entered-first l m) ∙ w)
 
   -- the waiting line of lowest serial is the one after the entered ones
