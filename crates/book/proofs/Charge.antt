@@ -141,7 +141,7 @@ module _ (p : Plan) (ok : PlanOk p) (b : Book) (f : ℕ) (in-plan : f < length (
           (z .0, z .1, goes-takes (z .0) (z .0 .stage) (k .1) (ap (λ (h : ℕ). sameClient φ (flowAt p h)) own ∙ same) (omega arith))
 
   -- who has passed stays so
-  pub passed-step : (s : ℕ) (l : Line) → Mem l (b .lines) → passed p f s (b .clock) l ≡ true → passed p f s (b .clock + 1) (move p b l) ≡ true
+  passed-step : (s : ℕ) (l : Line) → Mem l (b .lines) → passed p f s (b .clock) l ≡ true → passed p f s (b .clock + 1) (move p b l) ≡ true
   passed-step s l m e =
       let ψ : Flow = flowAt p (l .flow) in
       let k = and-true (not (eqb (l .flow) f)) (passedAt p φ ψ s (b .clock) (l .stage)) e in
@@ -149,6 +149,11 @@ module _ (p : Plan) (ok : PlanOk p) (b : Book) (f : ℕ) (in-plan : f < length (
       let w = not-true (isWaiting (l .stage)) (h .0) in
       rw (k .0, moved-waits p b l (l .stage), moved-entry p b l (l .stage) w, w)
       (passed-stays (meeting (p .sx) (p .sy) φ ψ) s (b .clock) (b .clock + 1) (entryOf (l .stage)) _ _ (omega arith) (moved-progress p b l (line-ok p ok b tr l m) (l .D) (l .stage) (tr .sound l m)) (h .1))
+
+  pub passed-more : (s : ℕ) → count (passed p f s (b .clock)) (b .lines) ≤ count (passed p f s (b .clock + 1)) ((stepped p b) .lines)
+  passed-more s =
+      rw (count-map (passed p f s (b .clock + 1)) (move p b) (b .lines))
+      (count-mono (passed p f s (b .clock)) (λ l. passed p f s (b .clock + 1) (move p b l)) (b .lines) (passed-step s))
 
   -- the charging lemma: f waits with a token and doesn't enter
   pub charge : (s : ℕ) → s ≤ b .clock → any (waitsFor f) (b .lines) ≡ true → 1 ≤ (bucketAt b f) .tokens → enters p b f ≡ false

@@ -41,6 +41,18 @@ none-within a n = elim (decLe a n) [ yes l ↦ rw (le-ltb n a l) (and-false (leb
 abbrev pub AllRegulated : Plan → Book → Type 0
 AllRegulated p b = (f : ℕ) → f < length (p .flows) → Regulated ((flowAt p f) .burst) ((flowAt p f) .period) (bucketAt b f) (b .clock) (span b f)
 
+-- no cycles, no entries
+pub span-none : (b : Book) (f a : ℕ) → span b f a a ≡ 0
+span-none b f a =
+    count-none (λ l. ofFlow f l && enteredIn a a (l .stage)) (b .lines)
+    (λ l m. rw (none-within a (entryOf (l .stage)), and-false (not (isWaiting (l .stage)))) (and-false (ofFlow f l)))
+
+-- an offer is no entry
+pub span-offer : (b : Book) (f g a t : ℕ) → span (offered b f) g a t ≡ span b g a t
+span-offer b f g a t =
+    count-append (λ l. ofFlow g l && enteredIn a t (l .stage)) (b .lines) (offeredLine b f ∷ [])
+    ∙ rw (and-false (ofFlow g (offeredLine b f))) (omega arith)
+
 -- rule 4
 pub bucket-step : (p : Plan) (b : Book) (f : ℕ) → f < length (p .flows)
     → bucketAt (stepped p b) f ≡ afterCycle ((flowAt p f) .burst) ((flowAt p f) .period) (enters p b f) (bucketAt b f)
@@ -56,10 +68,7 @@ module _ (p : Plan) (ok : PlanOk p) where
 
   module _ (b : Book) (held : AllRegulated p b) where
     pub regulated-offer : (f : ℕ) → AllRegulated p (offered b f)
-    regulated-offer f g l = recount _ _ (bucketAt b g) (b .clock) (span b g) (held g l) (span (offered b f) g) same
-      where
-        same : (a t : ℕ) → span (offered b f) g a t ≡ span b g a t
-        same a t = count-append (λ k. ofFlow g k && enteredIn a t (k .stage)) (b .lines) (offeredLine b f ∷ []) ∙ rw (and-false (ofFlow g (offeredLine b f))) (omega arith)
+    regulated-offer f g l = recount _ _ (bucketAt b g) (b .clock) (span b g) (held g l) (span (offered b f) g) (span-offer b f g)
 
     module _ (tr : Traced p b) (q : Queued b) where
       -- a line's entry in a span, after the step
@@ -116,7 +125,4 @@ module _ (p : Plan) (ok : PlanOk p) where
       regulated-step f l =
           rw (bucket-step p b f l)
           (cycle _ _ (bucketAt b f) (b .clock) (span b f) (held f l) (enters p b f) (λ e. entering-ready p b f e .token) (span (stepped p b) f)
-          (span-old f) (span-new f) (span-none f))
-        where
-          span-none : (f : ℕ) → span (stepped p b) f (b .clock + 1) (b .clock + 1) ≡ 0
-          span-none f = count-none (λ k. ofFlow f k && enteredIn (b .clock + 1) (b .clock + 1) (k .stage)) ((stepped p b) .lines) (λ k m. rw (none-within (b .clock + 1) (entryOf (k .stage)), and-false (not (isWaiting (k .stage)))) (and-false (ofFlow f k)))
+          (span-old f) (span-new f) (span-none (stepped p b) f (b .clock + 1)))
