@@ -16,3 +16,4 @@ pub mod Deliveries
 pub mod Kept
 pub mod State
 pub mod Promises
+pub mod Cases
