@@ -1,6 +1,6 @@
 -- The starred cases of 01 hold of the definitions.
 use mathlib.Core.List.{List, [], _∷_, _++_, map}
-use mathlib.Core.Path.{_≡_, refl}
+use mathlib.Core.Path.{refl}
 use Rattle.laws.specs.Bounded as Bounded
 use Rattle.torus.specs.Ring as Ring
 use Rattle.bucket.specs.Regulator as Regulator

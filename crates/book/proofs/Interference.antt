@@ -1,26 +1,22 @@
 -- What passes a flow's source in a window is at most I(t). A window through which a flow waits with a token is no longer than what
 -- passed and the flow's own entries. Rests on Charge, Spans and the windows' definitions.
-use mathlib.Core.Bool.{Bool, true, false, cond, not, _&&_, false≢true, and-false}
+use mathlib.Core.Bool.{Bool, true, false, not, _&&_, false≢true}
 use mathlib.Core.List.{[], _∷_}
-use mathlib.Core.Logic.{_⊎_, inl, inr}
+use mathlib.Core.Logic.{inl, inr}
 use mathlib.Core.Path.{_≡_, refl, sym, ap, _∙_}
-use Prim.Native.Nat.{ℕ, suc, _+_, _-_, _≤_, _<_}
+use Prim.Native.Nat.{ℕ, _+_, _-_, _≤_, _<_}
 use native.Mathlib.Nat.{le-trans}
 use native.Mathlib.Decide.{ℕ-discrete, decLt}
 use native.Mathlib.Omega.{arith}
 use borrow.Author.Tests.{lt-ltb, le-leb, eq-eqb, ne-eqb, eqb-true, not-true}
-use lib.Dec.{ltb, leb, eqb}
+use lib.Dec.{eqb}
 use lib.ListN.{length}
-use Rattle.laws.specs.Bounded.{sumBelow}
 use Rattle.laws.specs.Count.{one, count, any}
 use Rattle.laws.proofs.Cases.{test, and-true}
 use Rattle.laws.proofs.Count.{count-none, count-mono, count-split, count-append}
 use Rattle.laws.proofs.Sum.{sum-mono}
-use Rattle.flow.specs.declared.Flow.{Flow}
 use Rattle.flow.specs.Plan.{Plan, flowAt, PlanOk}
-use Rattle.bucket.specs.Curve.{curve}
 use Rattle.bucket.proofs.Regulator.{Regulated, enters-at-most}
-use Rattle.window.specs.Conflict.{conflict}
 use Rattle.window.specs.Window.{share, shareOf, interference}
 use Rattle.book.specs.Line.{Line, isWaiting, entryOf}
 use Rattle.book.specs.Book.{Book, bucketAt, ofFlow, waitsFor, offered, offeredLine}
@@ -132,8 +128,8 @@ module _ (p : Plan) (ok : PlanOk p) (b : Book) (f : ℕ) (in-plan : f < length (
       record {
         now = omega (arith, busy .now);
         taken = elim (test (enters p b f)) [
-          | inr out ↦ omega (arith, busy .taken, charge p ok b f in-plan tr q s (busy .now) w token out, ap one out)
-          | inl go ↦ omega (arith, busy .taken, passed-more p ok b f in-plan tr q s, ap one go)
+          | inr out ↦ omega (arith, busy .taken, charge p ok b f tr q s (busy .now) w token out, ap one out)
+          | inl go ↦ omega (arith, busy .taken, passed-more p ok b f tr q s, ap one go)
         ];
       }
 

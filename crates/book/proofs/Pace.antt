@@ -1,29 +1,25 @@
 -- The entry bound: a flow with I(T) < T gets each waiting line in within P + T − 1 cycles of being the head. Rests on Interference
 -- and the regulator's two laws.
-use mathlib.Core.Bool.{Bool, true, false, cond, not, _&&_, false≢true}
-use mathlib.Core.List.{List, [], _∷_, List·Memᴰ as Mem}
+use mathlib.Core.Bool.{true, false, _&&_, false≢true}
+use mathlib.Core.List.{List·Memᴰ as Mem}
 use mathlib.Core.Logic.{_⊎_, inl, inr}
-use mathlib.Core.Path.{_≡_, refl, sym, ap, _∙_}
-use Prim.Native.Nat.{ℕ, zero, suc, _+_, _-_, _*_, _≤_, _<_}
+use mathlib.Core.Path.{_≡_, sym, ap, _∙_}
+use Prim.Native.Nat.{ℕ, suc, _+_, _-_, _*_, _≤_, _<_}
 use native.Mathlib.Nat.{add-zero, mul-le-mul-right}
 use native.Mathlib.Decide.{ℕ-discrete, decLt}
 use native.Mathlib.Omega.{arith}
 use borrow.Author.Tests.{eq-eqb, not-false}
 use lib.ListN.{length}
-use Rattle.laws.specs.Count.{one, count, any}
+use Rattle.laws.specs.Count.{one, any}
 use Rattle.laws.proofs.Cases.{test, and-true}
-use Rattle.laws.proofs.Bounded.{getD-tabulate}
-use Rattle.laws.proofs.Count.{mem-map, mem-snoc, any-mem, count-append, count-sum}
-use Rattle.flow.specs.declared.Flow.{Flow}
-use Rattle.flow.specs.Plan.{Plan, flowAt, FlowOk, PlanOk}
-use Rattle.bucket.specs.declared.Bucket.{Bucket}
-use Rattle.bucket.specs.Regulator.{fullBucket, afterCycle}
+use Rattle.laws.proofs.Count.{mem-map, mem-snoc, any-mem}
+use Rattle.flow.specs.Plan.{Plan, flowAt, PlanOk}
+use Rattle.bucket.specs.Regulator.{afterCycle}
 use Rattle.bucket.proofs.Regulator.{Regulated, wait, wait-most, wait-some, wait-less, token-stays}
 use Rattle.window.specs.Window.{interference}
-use Rattle.book.specs.Line.{Stage, Line, isWaiting, entryOf}
-use Rattle.book.specs.Book.{Book, bucketAt, ofFlow, waitsFor, enteredFor, totalOf, waitingOf, enteredOf, start, offered, offeredLine}
+use Rattle.book.specs.Line.{Line, isWaiting, entryOf}
+use Rattle.book.specs.Book.{Book, bucketAt, waitsFor, totalOf, waitingOf, enteredOf, start, offered}
 use Rattle.book.specs.Cycle.{enters, lowest, move, stepped}
-use Rattle.book.proofs.Entries.{entering-ready}
 use Rattle.book.proofs.Moves.{moved-waits, moved-entry, new-entry}
 use Rattle.book.proofs.Queue.{Queued, queued-step, waits-past, entered-step, entered-offer, total-split}
 use Rattle.book.proofs.Traced.{Traced, traced-step}

@@ -1,15 +1,14 @@
 -- The promises of the packet book, for every accepted plan and every list of calls from its start. Rests on Kept and State.
-use mathlib.Core.Bool.{Bool, true, false, _&&_, false≢true}
+use mathlib.Core.Bool.{Bool, true, false, _&&_}
 use mathlib.Core.List.{List, List·Memᴰ as Mem}
-use mathlib.Core.Logic.{_⊎_, inl, inr}
-use mathlib.Core.Path.{_≡_, refl, sym, ap, _∙_}
-use Prim.Native.Nat.{ℕ, suc, _+_, _-_, _*_, _≤_, _<_}
+use mathlib.Core.Path.{_≡_, refl}
+use Prim.Native.Nat.{ℕ, suc, _+_, _-_, _≤_, _<_}
 use native.Mathlib.Omega.{arith}
-use borrow.Author.Tests.{ltb-false, eq-eqb, eqb-true}
-use lib.Dec.{ltb, eqb}
+use borrow.Author.Tests.{eq-eqb}
+use lib.Dec.{eqb}
 use lib.ListN.{length}
 use Rattle.laws.specs.Count.{count}
-use Rattle.laws.proofs.Cases.{test, and-true}
+use Rattle.laws.proofs.Cases.{and-true}
 use Rattle.laws.proofs.Count.{any-true, mem-count, count-any, count-mono}
 use Rattle.flow.specs.declared.Flow.{Flow}
 use Rattle.flow.specs.Plan.{Plan, flowAt, FlowOk, PlanOk}
@@ -18,7 +17,7 @@ use Rattle.window.specs.declared.Found.the-variants.{At}
 use Rattle.window.specs.Window.{interference, windowOf}
 use Rattle.window.proofs.Window.{window-least}
 use Rattle.book.specs.Line.{Stage, waiting, placed, left, Line, isWaiting, isLeft, entryOf}
-use Rattle.book.specs.Book.{Book, bucketAt, ofFlow, totalOf, enteredOf}
+use Rattle.book.specs.Book.{Book, bucketAt, ofFlow, enteredOf}
 use Rattle.book.specs.Cycle.{Delivery, deliveryOf}
 use Rattle.book.specs.Calls.{Call, run}
 use Rattle.book.specs.Promises.{deadline, EntersBy, sameWords, delivers, InState, FlowInState, Promises}

@@ -1,20 +1,18 @@
 -- How often a flow entered in a span of cycles, read off the lines; every flow's bucket is regulated with it. Rests on Queue and Traced.
-use mathlib.Core.Bool.{Bool, true, false, not, _&&_, false≢true, and-false}
-use mathlib.Core.List.{List, [], _∷_, List·Memᴰ as Mem}
-use mathlib.Core.Logic.{_⊎_, inl, inr}
-use mathlib.Core.Path.{_≡_, refl, sym, ap, _∙_}
-use Prim.Native.Nat.{ℕ, zero, suc, _+_, _≤_, _<_}
+use mathlib.Core.Bool.{Bool, true, false, not, _&&_, and-false}
+use mathlib.Core.List.{[], _∷_, List·Memᴰ as Mem}
+use mathlib.Core.Logic.{inl, inr}
+use mathlib.Core.Path.{_≡_, refl, ap, _∙_}
+use Prim.Native.Nat.{ℕ, _+_, _≤_, _<_}
 use native.Mathlib.Decide.{decLe}
 use native.Mathlib.Omega.{arith}
 use borrow.Author.Tests.{lt-ltb, le-ltb, le-leb, lt-leb}
 use lib.Dec.{ltb, leb}
 use lib.ListN.{length}
-use Rattle.laws.specs.Bounded.{tabulate}
 use Rattle.laws.specs.Count.{one, count}
 use Rattle.laws.proofs.Cases.{test}
 use Rattle.laws.proofs.Bounded.{getD-tabulate}
 use Rattle.laws.proofs.Count.{count-append, count-map, count-same, count-sum, count-none}
-use Rattle.flow.specs.declared.Flow.{Flow}
 use Rattle.flow.specs.Plan.{Plan, flowAt, PlanOk}
 use Rattle.bucket.specs.Regulator.{fullBucket, afterCycle}
 use Rattle.bucket.proofs.Regulator.{Regulated, reset, cycle, recount}

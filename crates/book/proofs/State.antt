@@ -1,11 +1,10 @@
 -- What a sound line promises: its place is one of 01's for a state, its flight is exact, and its D is at most ΔY. Rests on Path.
-use mathlib.Core.Bool.{Bool, true, false, cond, _&&_}
-use mathlib.Core.Logic.{_⊎_, inl, inr}
-use mathlib.Core.Path.{_≡_, refl, sym, ap, _∙_}
-use Prim.Native.Nat.{ℕ, suc, _+_, _-_, _*_, _≤_, _<_}
+use mathlib.Core.Bool.{true}
+use mathlib.Core.Logic.{inl, inr}
+use mathlib.Core.Path.{_≡_, ap, _∙_}
+use Prim.Native.Nat.{ℕ, _+_, _-_, _*_, _≤_}
 use native.Mathlib.Omega.{arith}
 use borrow.Author.Tests.{le-leb, eq-eqb, ne-eqb}
-use lib.Dec.{leb, eqb}
 use Rattle.torus.specs.Ring.{offset, lap}
 use Rattle.torus.proofs.Ring.{offset-same, lap-most}
 use Rattle.flow.specs.declared.Flow.{Flow}
@@ -15,7 +14,7 @@ use Rattle.window.specs.Flight.{travel, mostDeflections}
 use Rattle.book.specs.Line.{Place, W, N, Stage, waiting, placed, left}
 use Rattle.book.specs.InPlace.{rowsDone, inPlace}
 use Rattle.book.specs.Promises.{Flies}
-use Rattle.book.proofs.Path.{Sound, placed-on, entered-before}
+use Rattle.book.proofs.Path.{Sound, placed-on}
 
 module _ (p : Plan) (f : Flow) (ok : FlowOk (p .sx) (p .sy) f) (c D : ℕ) where
   abbrev r : ℕ → ℕ
