@@ -7,7 +7,7 @@ use native.Mathlib.Omega.{arith}
 use lib.ListN.{length, getD, set, length-set}
 use lib.Seq.{getD-set-same, getD-set-other}
 use Rattle.laws.specs.Bounded.{sumBelow}
-use Rattle.laws.proofs.Sum.{sum-same, sum-more, sum-mono, sum-most}
+use Rattle.laws.proofs.Sum.{sum-none, sum-more, sum-same, sum-mono, sum-most}
 use Rattle.flow.specs.declared.Flow.{Flow}
 use Rattle.flow.specs.Plan.{mostFlows, mostBurst}
 use Rattle.bucket.specs.Curve.{curve}
@@ -29,3 +29,11 @@ rival-most l t k ok h = omega (arith, curve-most (getD l (3 * k) 0) (getD l (3 *
 pub demand-most : (l : List ℕ) (n t : ℕ) → ((k : ℕ) → k < n → RivalOk l k) → t ≤ 65535 → demandOf l n t ≤ 70000 * n
 unfolding demandOf
 demand-most l n t ok h = sum-most _ 70000 n (λ k b. rival-most l t k (ok k b) h)
+
+pub demand-none : (l : List ℕ) (t : ℕ) → demandOf l 0 t ≡ 0
+unfolding demandOf
+demand-none l t = sum-none _
+
+pub demand-more : (l : List ℕ) (n t : ℕ) → demandOf l (n + 1) t ≡ demandOf l n t + rivalShare l t n
+unfolding demandOf
+demand-more l n t = sum-more _ n
