@@ -94,7 +94,7 @@ fn demand(rivals: &[u32], n: usize, t: u32) -> u32
 }
 
 // The least window that the n rivals leave. Where they leave none at t, none is left up to their demand.
-fn least_window(rivals: &[u32], n: usize) -> Found
+pub fn least_window(rivals: &[u32], n: usize) -> Found
     requires { ⌜ Rivals (now rivals) n ⌝ }
     ensures { λ r. ⌜ r ≡ leastFrom (demandOf (now (rivals .entry)) n) mostWindow 1 ⌝ }
 {
@@ -112,7 +112,7 @@ fn least_window(rivals: &[u32], n: usize) -> Found
 }
 
 // Flow g with its conflict, after n rivals: three words more if it is one.
-fn keep_rival(rivals: &mut [u32], n: usize, g: Flow, c: Conflict) -> usize
+pub fn keep_rival(rivals: &mut [u32], n: usize, g: Flow, c: Conflict) -> usize
     requires { ⌜ 3 * n + 2 < length (now rivals) ⌝ }
     ensures { λ r. ⌜ kept r (now (rivals .exit)) ≡ keptWith (now (rivals .entry)) n g c ⌝ }
 {
