@@ -14,7 +14,7 @@ use Rattle.window.specs.declared.Conflict.{Conflict}
 use Rattle.window.specs.declared.Conflict.the-variants.{Free, Spread}
 use Rattle.window.specs.Conflict.{Pair, conflict}
 use Rattle.window.specs.Window.{share, shareOf, interference, leastFrom, mostWindow, windowOf}
-use Rattle.window.specs.Rivals.{demandOf, Rivals, RivalsAmong, keptWith}
+use Rattle.window.specs.Rivals.{demandOf, Rivals, RivalsAmong, Kept, keptWith}
 use Rattle.window.proofs.Spread.{SpreadMost, none, some, spread-most}
 use Rattle.window.proofs.Rivals.{demand-none, with-demand, with-ok}
 
@@ -67,8 +67,10 @@ module _ (p : Plan) (f m : ℕ) (l : List ℕ) (n : ℕ) (h : RivalsAmong p f m 
         }
 
     -- flow m with its conflict
-    pub among-more : let k = keptWith l n (flowAt p m) (conflict (p .sx) (p .sy) (flowAt p f) (flowAt p m)) in RivalsAmong p f (m + 1) (k .words) (k .count)
-    among-more =
-        among-by _ refl
+    pub among-more : (k : Kept) → k ≡ keptWith l n (flowAt p m) (conflict (p .sx) (p .sy) (flowAt p f) (flowAt p m))
+        → RivalsAmong p f (m + 1) (k .words) (k .count)
+    among-more k e =
+        rw e
+        (among-by _ refl
         (spread-most (p .sx) (p .sy) (flowAt p f) (flowAt p m)
-        (record { sx-most = ok .sx-most; sy-most = ok .sy-most; own = ok .flow-ok f in-plan; other = ok .flow-ok m below }))
+        (record { sx-most = ok .sx-most; sy-most = ok .sy-most; own = ok .flow-ok f in-plan; other = ok .flow-ok m below })))

@@ -5,4 +5,5 @@ pub mod Interference
 pub mod Window
 pub mod Rivals
 pub mod Gathered
+pub mod Flight
 pub mod Cases

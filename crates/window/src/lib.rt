@@ -4,6 +4,8 @@ ghost use Prim.Native.Nat.{_+_, _*_, _<_, _≤_};
 ghost use lib.ListN.{length};
 ghost use Rattle.window.specs.Conflict.{Pair, conflict, conflictEast, conflictSouth};
 ghost use Rattle.window.specs.Window.{mostWindow, leastFrom};
+ghost use Rattle.flow.specs.Plan.{FlowOk, mostSize};
+ghost use Rattle.window.specs.Flight.{flightBound, mostFlight};
 ghost use Rattle.window.specs.Rivals.{rivalShare, demandOf, Rivals, RivalOk, kept, keptWith};
 use flow::Flow;
 use flow::Port;
@@ -126,4 +128,14 @@ pub fn keep_rival(rivals: &mut [u32], n: usize, g: Flow, c: Conflict) -> usize
             n + 1
         }
     }
+}
+
+// The most cycles of a flow's packet from entry to exit, with 2.
+pub fn flight_bound(sx: u32, sy: u32, f: Flow) -> u32
+    requires { ⌜ (FlowOk sx sy f) × ((sx ≤ mostSize) × (sy ≤ mostSize)) ⌝ }
+    ensures { λ r. ⌜ (r ≡ flightBound sx sy f) × (r ≤ mostFlight) ⌝ }
+{
+    let dx = f.offset_x(sx);
+    let dy = f.offset_y(sy);
+    dx + dy + dy * sx + 2
 }
