@@ -13,6 +13,10 @@ use Rattle.laws.specs.Count.{one, count, any, keep, joinBelow}
 use Rattle.laws.proofs.Cases.{test}
 use Rattle.laws.proofs.Sum.{sum-same}
 
+pub one-most : (t : Bool) → one t ≤ 1
+one-most true = omega arith
+one-most false = omega arith
+
 module _ {A : Type 0} where
   -- a member of a list with x at its end
   pub mem-snoc : {y x : A} (l : List A) → Mem y (l ++ (x ∷ [])) → Mem y l ⊎ (y ≡ x)
@@ -46,6 +50,9 @@ module _ {A : Type 0} where
   pub any-count : (t : A → Bool) (l : List A) → any t l ≡ true → 1 ≤ count t l
   any-count t [] e = absurd (false≢true e)
   any-count t (z ∷ l) e = elim (test (t z)) [ inl h ↦ rw h (omega arith) | inr h ↦ rw h (omega (arith, any-count t l (rw h at e))) ]
+
+  pub mem-count : (t : A → Bool) {x : A} (l : List A) → Mem x l → t x ≡ true → 1 ≤ count t l
+  mem-count t l m e = any-count t l (any-mem t l m e)
 
   pub none-count : (t : A → Bool) (l : List A) → any t l ≡ false → count t l ≡ 0
   none-count t [] e = refl

@@ -51,6 +51,14 @@ offset-same size at l = sym (offset-is size at at l l 0 (inl (omega arith)))
 pub offset-zero : (size from to : ℕ) → from < size → to < size → offset size from to ≡ 0 → from ≡ to
 offset-zero size from to f t e = elim (offset-cases size from to f t) [ inl h ↦ omega arith | inr h ↦ absurd (omega arith) ]
 
+-- no two places have the same offset
+pub offset-one : (size from a b : ℕ) → from < size → a < size → b < size → offset size from a ≡ offset size from b → a ≡ b
+offset-one size from a b f l m e =
+    elim (offset-cases size from a f l) [
+      | inl h ↦ elim (offset-cases size from b f m) [ inl k ↦ omega arith | inr k ↦ absurd (omega arith) ]
+      | inr h ↦ elim (offset-cases size from b f m) [ inl k ↦ absurd (omega arith) | inr k ↦ omega arith ]
+    ]
+
 pub next-below : (size at : ℕ) → at < size → next size at < size
 next-below size at l = elim (next-cases size at l) [ inl h ↦ omega arith | inr h ↦ omega arith ]
 
@@ -99,6 +107,10 @@ lap-cases size from to =
       | yes e ↦ inl (e, rw (eq-eqb (offset size from to) 0 e))
       | no e ↦ inr (omega arith, rw (ne-eqb (offset size from to) 0 e))
     ]
+
+pub lap-most : (size from to : ℕ) → from < size → to < size → lap size from to ≤ size
+lap-most size from to f t =
+    elim (lap-cases size from to) [ inl h ↦ omega arith | inr h ↦ omega (arith, offset-below size from to f t) ]
 
 -- a lap is 1 after the start, and one more with each place until the start is met again
 pub lap-first : (size from : ℕ) → from < size → lap size from (next size from) ≡ 1

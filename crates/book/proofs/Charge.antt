@@ -1,0 +1,169 @@
+-- Charging: a cycle in which a flow waits with a token and doesn't enter takes a packet of another flow past its source.
+-- Rests on Takers; the sum over flows against I(t) is in Interference.
+use mathlib.Core.Bool.{Bool, true, false, not, _&&_, false≢true}
+use mathlib.Core.List.{List, List·Memᴰ as Mem}
+use mathlib.Core.Logic.{_⊎_, inl, inr, _≢_}
+use mathlib.Core.Path.{_≡_, refl, sym, ap, _∙_}
+use Prim.Native.Nat.{ℕ, suc, _+_, _≤_, _<_}
+use native.Mathlib.Nat.{le-refl}
+use native.Mathlib.Omega.{arith}
+use borrow.Author.Tests.{eq-eqb, ne-eqb, eqb-true, eqb-false, not-true, not-false}
+use lib.Dec.{ltb, eqb}
+use lib.ListN.{length}
+use Rattle.laws.specs.Count.{one, count, any}
+use Rattle.laws.proofs.Cases.{test, and-true}
+use Rattle.laws.proofs.Count.{any-true, count-any, count-map, count-mono, count-more}
+use Rattle.flow.specs.declared.Flow.{Flow}
+use Rattle.flow.specs.declared.Port.the-variants.{East, South}
+use Rattle.flow.specs.Offsets.{ΔX, portOf, sameClient}
+use Rattle.flow.specs.Plan.{Plan, flowAt, FlowOk, PlanOk}
+use Rattle.book.specs.Line.{Place, W, N, samePlace, Stage, waiting, placed, left, Line, isWaiting, standsIn, entryOf}
+use Rattle.book.specs.Book.{Book, bucketAt, ofFlow, waitsFor}
+use Rattle.book.specs.Cycle.{full, turns, westTurns, isOpen, ready, enters, lowest, sent, moveStage, move, stepped}
+use Rattle.book.proofs.Path.{Sound, progress, step-entry}
+use Rattle.book.proofs.Entries.{Ready, client-same, parts-ready, some-enters}
+use Rattle.book.proofs.Moves.{goes, moved-waits, moved-entry, sent-waits, sent-entry}
+use Rattle.book.proofs.Queue.{Queued, goes-count}
+use Rattle.book.proofs.Traced.{Traced, line-ok, moved-progress}
+use Rattle.book.proofs.Spans.{span}
+use Rattle.book.proofs.Meetings.{meeting, passed-yes, passed-stays}
+use Rattle.book.proofs.Takers.{Takes, Passes, passedAt, placed-passes, away}
+
+-- a line of another flow has passed f's source by clock c, not before cycle s
+abbrev pub passed : Plan → ℕ → (s c : ℕ) → Line → Bool
+passed p f s c l = not (eqb (l .flow) f) && passedAt p (flowAt p f) (flowAt p (l .flow)) s c (l .stage)
+
+turns-some : (p : Plan) (b : Book) (x y : ℕ) → westTurns p b x y ≡ true → any (turns p x y) (b .lines) ≡ true
+unfolding westTurns
+turns-some p b x y e = e
+
+module _ (p : Plan) (ok : PlanOk p) (b : Book) (f : ℕ) (in-plan : f < length (p .flows)) (tr : Traced p b) (q : Queued b) where
+  abbrev φ : Flow
+  φ = flowAt p f
+
+  abbrev okf : FlowOk (p .sx) (p .sy) φ
+  okf = ok .flow-ok f in-plan
+
+  -- who takes the port of f passes it in this step
+  takes-passes : (s : ℕ) → s ≤ b .clock → (z : Line) → FlowOk (p .sx) (p .sy) (flowAt p (z .flow)) → (D : ℕ) (st : Stage)
+      → Sound p (flowAt p (z .flow)) (b .clock) D st → Takes p b f z st → Passes p φ (flowAt p (z .flow)) s (b .clock) st (moveStage p b z st)
+  unfolding meeting
+  takes-passes s now z okz D waiting h t =
+      let c : ℕ = b .clock in
+      let ψ : Flow = flowAt p (z .flow) in
+      record {
+        before = refl;
+        after =
+            rw (t .0, t .1, sent-waits p ψ c c (ψ .xs) (ψ .ys) (portOf (p .sx) ψ), sent-entry p ψ c c (ψ .xs) (ψ .ys) (portOf (p .sx) ψ))
+            (passed-yes 0 0 0 s (c + 1) c _ (omega arith) (omega arith) (step-entry p ψ okz c .rises));
+      }
+  takes-passes s now z okz D (placed e at) h t = placed-passes p φ (flowAt p (z .flow)) okf okz b s (b .clock) D e now at (t .0) (t .1) (t .2) h
+  takes-passes s now z okz D (left e t x y) h t′ = absurd t′
+
+  takes-other : (z : Line) → FlowOk (p .sx) (p .sy) (flowAt p (z .flow)) → (D : ℕ) (st : Stage)
+      → Sound p (flowAt p (z .flow)) (b .clock) D st → Takes p b f z st → z .flow ≢ f
+  takes-other z okz D waiting h t same = t .2 same
+  takes-other z okz D (placed e at) h t same =
+      false≢true
+      (sym (away p φ (flowAt p (z .flow)) okf okz (b .clock) D e at (t .0) (t .1) h)
+      ∙ client-same φ (flowAt p (z .flow)) (ap (λ (g : ℕ). (flowAt p g) .xs) (sym same)) (ap (λ (g : ℕ). (flowAt p g) .ys) (sym same)))
+  takes-other z okz D (left e t x y) h t′ same = absurd t′
+
+  -- a line that goes, and a line in a register of f's router
+  goes-takes : (z : Line) (st : Stage) → isWaiting st && (enters p b (z .flow) && lowest b z) ≡ true → sameClient φ (flowAt p (z .flow)) ≡ true → z .flow ≢ f
+      → Takes p b f z st
+  goes-takes z waiting go same other = (go, same, other)
+  goes-takes z (placed e at) go same other = absurd (false≢true go)
+  goes-takes z (left e t x y) go same other = absurd (false≢true go)
+
+  west-takes : (z : Line) (st : Stage) → standsIn (W (φ .xs) (φ .ys)) st ≡ true
+      → (ltb 0 (ΔX (p .sx) φ) ≡ true) ⊎ ((ltb 0 (ΔX (p .sx) φ) ≡ false) × (φ .xs ≡ (flowAt p (z .flow)) .xd)) → Takes p b f z st
+  west-takes z waiting h port = absurd (false≢true h)
+  west-takes z (placed e (N x y)) h port = absurd (false≢true h)
+  west-takes z (placed e (W x y)) h port =
+      let k = and-true (eqb (φ .xs) x) (eqb (φ .ys) y) h in
+      let xe = sym (eqb-true (φ .xs) x (k .0)) in
+      let ye = sym (eqb-true (φ .ys) y (k .1)) in
+      elim port [ inl east ↦ (xe, ye, rw east tt) | inr south ↦ (xe, ye, rw (south .0) (xe ∙ south .1)) ]
+  west-takes z (left e t x y) h port = absurd (false≢true h)
+
+  north-takes : (z : Line) (st : Stage) → standsIn (N (φ .xs) (φ .ys)) st ≡ true → ltb 0 (ΔX (p .sx) φ) ≡ false → westTurns p b (φ .xs) (φ .ys) ≡ false → Takes p b f z st
+  north-takes z waiting h south stays = absurd (false≢true h)
+  north-takes z (placed e (W x y)) h south stays = absurd (false≢true h)
+  north-takes z (placed e (N x y)) h south stays =
+      let k = and-true (eqb (φ .xs) x) (eqb (φ .ys) y) h in
+      let xe = sym (eqb-true (φ .xs) x (k .0)) in
+      let ye = sym (eqb-true (φ .ys) y (k .1)) in
+      (xe, ye, rw (south, xe, ye) stays)
+  north-takes z (left e t x y) h south stays = absurd (false≢true h)
+
+  -- a closed port is taken
+  closed-takes : isOpen p b (φ .xs) (φ .ys) (portOf (p .sx) φ) ≡ false → (z : Line) × Mem z (b .lines) × Takes p b f z (z .stage)
+  closed-takes shut =
+      elim (test (ltb 0 (ΔX (p .sx) φ))) [
+        | inl east ↦
+            let z = any-true (λ l. standsIn (W (φ .xs) (φ .ys)) (l .stage)) (b .lines) (not-false _ (rw east at shut)) in
+            (z .0, z .1, west-takes (z .0) (z .0 .stage) (z .2) (inl east))
+        | inr south ↦ elim (test (westTurns p b (φ .xs) (φ .ys))) [
+          | inl turn ↦ turning south turn
+          | inr stays ↦
+              let z = any-true (λ l. standsIn (N (φ .xs) (φ .ys)) (l .stage)) (b .lines) (held (full b (N (φ .xs) (φ .ys))) (rw (south, stays) at shut)) in
+              (z .0, z .1, north-takes (z .0) (z .0 .stage) (z .2) south stays)
+        ]
+      ]
+    where
+      held : (t : Bool) → not t && true ≡ false → t ≡ true
+      held true e = refl
+      held false e = sym e
+
+      turning : ltb 0 (ΔX (p .sx) φ) ≡ false → westTurns p b (φ .xs) (φ .ys) ≡ true → (z : Line) × Mem z (b .lines) × Takes p b f z (z .stage)
+      turning south turn =
+          let z = any-true (turns p (φ .xs) (φ .ys)) (b .lines) (turns-some p b (φ .xs) (φ .ys) turn) in
+          let k = and-true (standsIn (W (φ .xs) (φ .ys)) (z .0 .stage)) (eqb (φ .xs) ((flowAt p (z .0 .flow)) .xd)) (z .2) in
+          (z .0, z .1, west-takes (z .0) (z .0 .stage) (k .0) (inr (south, eqb-true _ _ (k .1))))
+
+  -- some line takes the port, or enters before f
+  blocked : any (waitsFor f) (b .lines) ≡ true → 1 ≤ (bucketAt b f) .tokens → enters p b f ≡ false → (z : Line) × Mem z (b .lines) × Takes p b f z (z .stage)
+  blocked w token out =
+      elim (test (isOpen p b (φ .xs) (φ .ys) (portOf (p .sx) φ))) [
+        | inr shut ↦ closed-takes shut
+        | inl opened ↦ elim (some-enters p b f (parts-ready p b f (record { waits = w; token = token; opened = opened }))) [
+          | inl own ↦ absurd (false≢true (sym out ∙ own))
+          | inr g ↦ lower (g .0) (g .1) (g .2) (g .3)
+        ]
+      ]
+    where
+      lower : (g : ℕ) → g < f → sameClient φ (flowAt p g) ≡ true → enters p b g ≡ true → (z : Line) × Mem z (b .lines) × Takes p b f z (z .stage)
+      lower g below same en =
+          let z = any-true (λ l. ofFlow g l && goes p b l) (b .lines) (count-any (λ l. ofFlow g l && goes p b l) (b .lines) (rw (goes-count b q p g, en) (omega arith))) in
+          let k = and-true (ofFlow g (z .0)) (goes p b (z .0)) (z .2) in
+          let own = eqb-true (z .0 .flow) g (k .0) in
+          (z .0, z .1, goes-takes (z .0) (z .0 .stage) (k .1) (ap (λ (h : ℕ). sameClient φ (flowAt p h)) own ∙ same) (omega arith))
+
+  -- who has passed stays so
+  passed-step : (s : ℕ) (l : Line) → Mem l (b .lines) → passed p f s (b .clock) l ≡ true → passed p f s (b .clock + 1) (move p b l) ≡ true
+  passed-step s l m e =
+      let ψ : Flow = flowAt p (l .flow) in
+      let k = and-true (not (eqb (l .flow) f)) (passedAt p φ ψ s (b .clock) (l .stage)) e in
+      let h = and-true (not (isWaiting (l .stage))) _ (k .1) in
+      let w = not-true (isWaiting (l .stage)) (h .0) in
+      rw (k .0, moved-waits p b l (l .stage), moved-entry p b l (l .stage) w, w)
+      (passed-stays (meeting (p .sx) (p .sy) φ ψ) s (b .clock) (b .clock + 1) (entryOf (l .stage)) _ _ (omega arith) (moved-progress p b l (line-ok p ok b tr l m) (l .D) (l .stage) (tr .sound l m)) (h .1))
+
+  pub passed-more : (s : ℕ) → count (passed p f s (b .clock)) (b .lines) ≤ count (passed p f s (b .clock + 1)) ((stepped p b) .lines)
+  passed-more s =
+      rw (count-map (passed p f s (b .clock + 1)) (move p b) (b .lines))
+      (count-mono (passed p f s (b .clock)) (λ l. passed p f s (b .clock + 1) (move p b l)) (b .lines) (passed-step s))
+
+  -- the charging lemma: f waits with a token and doesn't enter
+  pub charge : (s : ℕ) → s ≤ b .clock → any (waitsFor f) (b .lines) ≡ true → 1 ≤ (bucketAt b f) .tokens → enters p b f ≡ false
+      → suc (count (passed p f s (b .clock)) (b .lines)) ≤ count (passed p f s ((stepped p b) .clock)) ((stepped p b) .lines)
+  charge s now w token out =
+      let z = blocked w token out in
+      let okz = line-ok p ok b tr (z .0) (z .1) in
+      let h = tr .sound (z .0) (z .1) in
+      let other = ne-eqb (z .0 .flow) f (takes-other (z .0) okz (z .0 .D) (z .0 .stage) h (z .2)) in
+      let pass = takes-passes s now (z .0) okz (z .0 .D) (z .0 .stage) h (z .2) in
+      rw (count-map (passed p f s (b .clock + 1)) (move p b) (b .lines))
+      (count-more (passed p f s (b .clock)) (λ l. passed p f s (b .clock + 1) (move p b l)) (b .lines) (passed-step s) (z .0) (z .1)
+      (rw other (pass .before)) (rw other (pass .after)))

@@ -1,0 +1,85 @@
+-- Who enters in a step (01, One cycle, rule 3): a ready flow of a client, the lowest-numbered and no other. Rests on specs/Cycle.
+use mathlib.Core.Bool.{Bool, true, false, cond, not, _&&_, false≢true}
+use mathlib.Core.List.{List}
+use mathlib.Core.Logic.{_⊎_, inl, inr}
+use mathlib.Core.Path.{_≡_, refl, sym, ap, _∙_}
+use Prim.Native.Nat.{ℕ, suc, _+_, _≤_, _<_}
+use native.Mathlib.Decide.{ℕ-discrete, decLt}
+use native.Mathlib.Omega.{arith}
+use borrow.Author.Tests.{lt-ltb, ltb-true, eq-eqb, eqb-true, not-true}
+use lib.Dec.{ltb, eqb}
+use Rattle.laws.specs.Bounded.{anyBelow}
+use Rattle.laws.specs.Count.{any}
+use Rattle.laws.proofs.Cases.{test, and-true}
+use Rattle.laws.proofs.Bounded.{first-below, none-below, none-at}
+use Rattle.flow.specs.declared.Flow.{Flow}
+use Rattle.flow.specs.Offsets.{portOf, sameClient}
+use Rattle.flow.specs.Plan.{Plan, flowAt}
+use Rattle.book.specs.Book.{Book, bucketAt, waitsFor}
+use Rattle.book.specs.Cycle.{isOpen, ready, enters}
+
+pub client-parts : (f g : Flow) → sameClient f g ≡ true → (f .xs ≡ g .xs) × (f .ys ≡ g .ys)
+client-parts f g e =
+    let h = and-true (eqb (f .xs) (g .xs)) (eqb (f .ys) (g .ys)) e in (eqb-true _ _ (h .0), eqb-true _ _ (h .1))
+
+pub client-same : (f g : Flow) → f .xs ≡ g .xs → f .ys ≡ g .ys → sameClient f g ≡ true
+client-same f g x y = rw (eq-eqb (f .xs) (g .xs) x, eq-eqb (f .ys) (g .ys) y)
+
+module _ (p : Plan) (b : Book) where
+  -- a waiting packet, a token and an open port
+  pub record Ready (f : ℕ) : Type 0 where
+    pub waits : any (waitsFor f) (b .lines) ≡ true
+    pub token : 1 ≤ (bucketAt b f) .tokens
+    pub opened : isOpen p b ((flowAt p f) .xs) ((flowAt p f) .ys) (portOf (p .sx) (flowAt p f)) ≡ true
+
+  pub ready-parts : (f : ℕ) → ready p b f ≡ true → Ready f
+  unfolding ready
+  ready-parts f e =
+      let h = and-true (any (waitsFor f) (b .lines) && ltb 0 ((bucketAt b f) .tokens)) (isOpen p b ((flowAt p f) .xs) ((flowAt p f) .ys) (portOf (p .sx) (flowAt p f))) e in
+      let k = and-true (any (waitsFor f) (b .lines)) (ltb 0 ((bucketAt b f) .tokens)) (h .0) in
+      record { waits = k .0; token = ltb-true _ _ (k .1); opened = h .1 }
+
+  pub parts-ready : (f : ℕ) → Ready f → ready p b f ≡ true
+  unfolding ready
+  parts-ready f h = rw (h .waits, lt-ltb 0 ((bucketAt b f) .tokens) (h .token), h .opened)
+
+  -- a lower-numbered flow of the same client that is ready
+  abbrev rival : ℕ → ℕ → Bool
+  rival f g = sameClient (flowAt p f) (flowAt p g) && ready p b g
+
+  pub entering-ready : (f : ℕ) → enters p b f ≡ true → Ready f
+  unfolding enters
+  entering-ready f e = ready-parts f (and-true (ready p b f) (not (anyBelow f (rival f))) e .0)
+
+  entering-first : (f : ℕ) → enters p b f ≡ true → (g : ℕ) → g < f → sameClient (flowAt p f) (flowAt p g) ≡ true → ready p b g ≡ true → ⊥
+  unfolding enters
+  entering-first f e g l same r =
+      let first = not-true (anyBelow f (rival f)) (and-true (ready p b f) (not (anyBelow f (rival f))) e .1) in
+      false≢true (sym (none-at (rival f) f first g l) ∙ rw (same, r))
+
+  -- of a client with a ready flow some flow enters
+  pub some-enters : (f : ℕ) → ready p b f ≡ true → enters p b f ≡ true ⊎ ((g : ℕ) × (g < f) × (sameClient (flowAt p f) (flowAt p g) ≡ true) × (enters p b g ≡ true))
+  unfolding enters
+  some-enters f r =
+      elim (test (anyBelow f (rival f))) [
+        | inr none ↦ inl (rw (r, none))
+        | inl some ↦
+            let g = first-below (rival f) f some in
+            let parts = and-true (sameClient (flowAt p f) (flowAt p (g .0))) (ready p b (g .0)) (g .2) in
+            inr (g .0, g .1, parts .0, rw (parts .1, none-below (rival (g .0)) (g .0) (λ i l. lower (g .0) (parts .0) i (none-at (rival f) (g .0) (g .3) i l))))
+      ]
+    where
+      lower : (g : ℕ) → sameClient (flowAt p f) (flowAt p g) ≡ true → (i : ℕ) → rival f i ≡ false → rival g i ≡ false
+      lower g same i none = let e = client-parts (flowAt p f) (flowAt p g) same in rw (← (e .0), ← (e .1)) none
+
+  -- and only one
+  pub one-enters : (f g : ℕ) → enters p b f ≡ true → enters p b g ≡ true → sameClient (flowAt p f) (flowAt p g) ≡ true → f ≡ g
+  one-enters f g e h same =
+      let c = client-parts (flowAt p f) (flowAt p g) same in
+      elim (ℕ-discrete f g) [
+        | yes k ↦ k
+        | no k ↦ elim (decLt g f) [
+          | yes l ↦ absurd (entering-first f e g l same (parts-ready g (entering-ready g h)))
+          | no l ↦ absurd (entering-first g h f (omega arith) (client-same (flowAt p g) (flowAt p f) (sym (c .0)) (sym (c .1))) (parts-ready f (entering-ready f e)))
+        ]
+      ]

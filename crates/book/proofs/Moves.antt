@@ -1,0 +1,49 @@
+-- What a step does to one line, whatever its way: entry, waiting and leaving. Rests on specs/Cycle.
+use mathlib.Core.Bool.{Bool, true, false, cond, not, _&&_, false≢true}
+use mathlib.Core.Logic.{_⊎_, inl, inr}
+use mathlib.Core.Path.{_≡_, refl, sym, ap, _∙_}
+use Prim.Native.Nat.{ℕ, suc, _+_, _≤_, _<_}
+use lib.Dec.{eqb}
+use Rattle.laws.proofs.Cases.{test}
+use Rattle.flow.specs.declared.Flow.{Flow}
+use Rattle.flow.specs.declared.Port.{Port}
+use Rattle.flow.specs.declared.Port.the-variants.{East, South}
+use Rattle.flow.specs.Offsets.{portOf}
+use Rattle.flow.specs.Plan.{Plan, flowAt}
+use Rattle.book.specs.Line.{Stage, waiting, placed, left, Line, isWaiting, entryOf}
+use Rattle.book.specs.Book.{Book}
+use Rattle.book.specs.Cycle.{enters, lowest, sent, moveStage}
+
+-- the line enters in this step
+abbrev pub goes : Plan → Book → Line → Bool
+goes p b l = isWaiting (l .stage) && (enters p b (l .flow) && lowest b l)
+
+module _ (p : Plan) (f : Flow) (c e x y : ℕ) where
+  -- a packet that is sent has an entry, the one it had
+  pub sent-waits : (o : Port) → isWaiting (sent p f c e x y o) ≡ false
+  unfolding sent
+  sent-waits East = refl
+  sent-waits South = elim (test (eqb x (f .xd) && eqb y (f .yd))) [ inl h ↦ rw h | inr h ↦ rw h ]
+
+  pub sent-entry : (o : Port) → entryOf (sent p f c e x y o) ≡ e
+  unfolding sent
+  sent-entry East = refl
+  sent-entry South = elim (test (eqb x (f .xd) && eqb y (f .yd))) [ inl h ↦ rw h | inr h ↦ rw h ]
+
+module _ (p : Plan) (b : Book) (l : Line) where
+  pub moved-waits : (s : Stage) → isWaiting (moveStage p b l s) ≡ isWaiting s && not (enters p b (l .flow) && lowest b l)
+  moved-waits waiting =
+      elim (test (enters p b (l .flow) && lowest b l)) [ inl h ↦ rw (h, sent-waits) | inr h ↦ rw h ]
+  moved-waits (placed e at) = sent-waits p _ _ _ _ _ _
+  moved-waits (left e t x y) = refl
+
+  -- an entry stays; a new one is the clock
+  pub moved-entry : (s : Stage) → isWaiting s ≡ false → entryOf (moveStage p b l s) ≡ entryOf s
+  moved-entry waiting h = absurd (false≢true (sym h))
+  moved-entry (placed e at) h = sent-entry p _ _ _ _ _ _
+  moved-entry (left e t x y) h = refl
+
+  pub new-entry : (s : Stage) → isWaiting s ≡ true → enters p b (l .flow) && lowest b l ≡ true → entryOf (moveStage p b l s) ≡ b .clock
+  new-entry waiting h go = rw (go, sent-entry)
+  new-entry (placed e at) h go = absurd (false≢true h)
+  new-entry (left e t x y) h go = absurd (false≢true h)

@@ -1,0 +1,139 @@
+-- Who keeps a flow from entering: a packet that takes its port, or a line of its client that enters. It passes f in that step and
+-- had not passed before. Rests on Path, Entries and Meetings.
+use mathlib.Core.Bool.{Bool, true, false, cond, not, _&&_, false≢true}
+use mathlib.Core.List.{List, List·Memᴰ as Mem}
+use mathlib.Core.Logic.{_⊎_, inl, inr, _≢_}
+use mathlib.Core.Path.{_≡_, refl, sym, ap, _∙_}
+use Prim.Native.Nat.{ℕ, zero, suc, _+_, _-_, _*_, _≤_, _<_}
+use native.Mathlib.Nat.{mul-le-mul-right}
+use native.Mathlib.Decide.{ℕ-discrete}
+use native.Mathlib.Omega.{arith}
+use borrow.Author.Tests.{lt-ltb, le-ltb, le-leb, lt-leb, eq-eqb, ne-eqb, eqb-true, not-true, not-false}
+use lib.Dec.{ltb, leb, eqb}
+use Rattle.laws.specs.Count.{one, count, any}
+use Rattle.laws.proofs.Cases.{test, and-true}
+use Rattle.laws.proofs.Count.{any-true, count-any}
+use Rattle.torus.specs.Ring.{offset, lap}
+use Rattle.torus.proofs.Ring.{offset-same}
+use Rattle.flow.specs.declared.Flow.{Flow}
+use Rattle.flow.specs.declared.Port.{Port}
+use Rattle.flow.specs.declared.Port.the-variants.{East, South}
+use Rattle.flow.specs.Offsets.{ΔX, ΔY, portOf, sameClient}
+use Rattle.flow.specs.Plan.{Plan, flowAt, FlowOk}
+use Rattle.window.specs.Conflict.{rowsTo, columnsTo}
+use Rattle.book.specs.Line.{Place, W, N, columnOf, rowOf, samePlace, Stage, waiting, placed, left, Line, isWaiting, standsIn, entryOf}
+use Rattle.book.specs.Book.{Book, bucketAt, ofFlow, waitsFor}
+use Rattle.book.specs.Cycle.{full, turns, westTurns, output, isOpen, ready, enters, lowest, sent, moveStage}
+use Rattle.book.specs.InPlace.{rowsDone}
+use Rattle.book.proofs.Path.{Sound, InNorth, InFirst, InLater, GoesSouth, progress, progress-row, placed-south, along-first, along-later, step-placed, step-entry}
+use Rattle.book.proofs.Path
+use Rattle.book.proofs.Entries.{Ready, client-parts, client-same, parts-ready, some-enters}
+use Rattle.book.proofs.Moves.{goes, sent-waits, sent-entry}
+use Rattle.book.proofs.Queue.{Queued, goes-count}
+use Rattle.book.proofs.Meetings.{Meeting, never, meets, meeting, passedBy, passed-yes, passed-no}
+
+-- a packet in a register of f's router takes f's port: E if it is in W, S if it goes there
+abbrev TakesPort : Plan → Book → Flow → Place → Port → Type 0
+TakesPort p b g (W x y) East = Unit {0}
+TakesPort p b g (N x y) East = ⊥
+TakesPort p b g (W x y) South = x ≡ g .xd
+TakesPort p b g (N x y) South = westTurns p b x y ≡ false
+
+-- the line z, of another flow, keeps flow f from entering
+abbrev pub Takes : Plan → Book → ℕ → Line → Stage → Type 0
+Takes p b f z waiting = (enters p b (z .flow) && lowest b z ≡ true) × (sameClient (flowAt p f) (flowAt p (z .flow)) ≡ true) × (z .flow ≢ f)
+Takes p b f z (placed e at) =
+    (columnOf at ≡ (flowAt p f) .xs) × (rowOf at ≡ (flowAt p f) .ys) × TakesPort p b (flowAt p (z .flow)) at (portOf (p .sx) (flowAt p f))
+Takes p b f z (left e t x y) = ⊥
+
+-- a stage with an entry has passed f
+abbrev pub passedAt : Plan → (f g : Flow) → (s c : ℕ) → Stage → Bool
+passedAt p f g s c st = not (isWaiting st) && passedBy (meeting (p .sx) (p .sy) f g) s c (entryOf st) (progress p g st)
+
+-- the step of a stage takes it past f
+pub record Passes (p : Plan) (f g : Flow) (s c : ℕ) (old new : Stage) : Type 0 where
+  pub before : passedAt p f g s c old ≡ false
+  pub after : passedAt p f g s (c + 1) new ≡ true
+
+module _ (p : Plan) (f g : Flow) (okf : FlowOk (p .sx) (p .sy) f) (ok : FlowOk (p .sx) (p .sy) g) where
+  abbrev r : ℕ
+  r = rowsTo (p .sy) f g
+
+  -- a packet is never in a register of its own source's router
+  pub away : (c D e : ℕ) (at : Place) → columnOf at ≡ f .xs → rowOf at ≡ f .ys → Sound p g c D (placed e at) → sameClient f g ≡ false
+  away c D e at x y h = elim (test (sameClient f g)) [ inr other ↦ other | inl same ↦ absurd (home at h (x ∙ client-parts f g same .0) (y ∙ client-parts f g same .1)) ]
+    where
+      home : (at : Place) → Sound p g c D (placed e at) → columnOf at ≡ g .xs → rowOf at ≡ g .ys → ⊥
+      home (N x y) h a b = omega (arith, h .least, ap (offset (p .sy) (g .ys)) b, offset-same (p .sy) (g .ys) (ok .ys-on))
+      home (W x y) (inl h) a b = omega (arith, h .least, ap (offset (p .sx) (g .xs)) a, offset-same (p .sx) (g .xs) (ok .xs-on))
+      home (W x y) (inr h) a b = omega (arith, h .least, ap (offset (p .sy) (g .ys)) b, offset-same (p .sy) (g .ys) (ok .ys-on))
+
+  -- the meeting that is meant, and the packet's times at it
+  passes-at : (K J point s c D e : ℕ) (at : Place) (o : Port) → meeting (p .sx) (p .sy) f g ≡ meets K J point → s ≤ c → c ≤ e + K + J → e + K ≤ c
+      → progress p g (placed e at) ≤ point → point < progress p g (sent p g c e (columnOf at) (rowOf at) o) → Passes p f g s c (placed e at) (sent p g c e (columnOf at) (rowOf at) o)
+  passes-at K J point s c D e at o m now late early short past =
+      record {
+        before = rw m (passed-no K J point s c e (progress p g (placed e at)) short);
+        after = rw (m, sent-waits p g c e (columnOf at) (rowOf at) o, sent-entry p g c e (columnOf at) (rowOf at) o) (passed-yes K J point s (c + 1) e _ (omega arith) (omega arith) past);
+      }
+
+  -- the rows of the meeting's table
+  meets-first : sameClient f g ≡ false → ltb 0 (ΔX (p .sx) f) ≡ true → r ≡ 0 → 1 ≤ columnsTo (p .sx) f g → columnsTo (p .sx) f g ≤ ΔX (p .sx) g
+      → meeting (p .sx) (p .sy) f g ≡ meets (columnsTo (p .sx) f g) 0 (columnsTo (p .sx) f g)
+  unfolding meeting
+  meets-first other east row least most =
+      rw (other, east, eq-eqb r 0 row, le-leb 1 (columnsTo (p .sx) f g) least, le-leb (columnsTo (p .sx) f g) (ΔX (p .sx) g) most)
+
+  meets-later : sameClient f g ≡ false → ltb 0 (ΔX (p .sx) f) ≡ true → 1 ≤ r → r ≤ ΔY (p .sy) g
+      → meeting (p .sx) (p .sy) f g ≡ meets (ΔX (p .sx) g + r + lap (p .sx) (g .xd) (f .xs)) ((r - 1) * p .sx) (r * suc (p .sx) + lap (p .sx) (g .xd) (f .xs))
+  unfolding meeting
+  meets-later other east least most = rw (other, east, ne-eqb r 0 (omega arith), le-leb r (ΔY (p .sy) g) most)
+
+  meets-south : sameClient f g ≡ false → ltb 0 (ΔX (p .sx) f) ≡ false → f .xs ≡ g .xd → r ≤ ΔY (p .sy) g
+      → meeting (p .sx) (p .sy) f g ≡ meets (ΔX (p .sx) g + r) (r * p .sx) (r * suc (p .sx) + p .sx)
+  unfolding meeting
+  meets-south other south column most = rw (other, south, eq-eqb (g .xd) (f .xs) (sym column), le-leb r (ΔY (p .sy) g) most)
+
+  module _ (b : Book) (s c D e : ℕ) (now : s ≤ c) where
+    -- f's port is E and the packet is in W
+    west : ltb 0 (ΔX (p .sx) f) ≡ true → Sound p g c D (placed e (W (f .xs) (f .ys)))
+        → Passes p f g s c (placed e (W (f .xs) (f .ys))) (sent p g c e (f .xs) (f .ys) (output p b g (W (f .xs) (f .ys))))
+    west east (inl h) =
+        let row : r ≡ 0 = ap (offset (p .sy) (g .ys)) (h .row) ∙ offset-same (p .sy) (g .ys) (ok .ys-on) in
+        let rows : r * suc (p .sx) ≡ 0 * suc (p .sx) = ap (λ (k : ℕ). k * suc (p .sx)) row in
+        let come = along-first p g ok (f .xs) (f .ys) row in
+        passes-at _ _ _ s c D e (W (f .xs) (f .ys)) _ (meets-first (away c D e (W (f .xs) (f .ys)) refl refl (inl h)) east row (h .least) (h .most)) now
+        (omega (arith, h .time)) (omega (arith, h .time)) (omega arith) (omega (arith, step-placed p g ok b c D e (W (f .xs) (f .ys)) (inl h) .rises))
+    west east (inr h) =
+        let come = along-later p g ok (f .xs) (f .ys) (h .least) in
+        let most = mul-le-mul-right (p .sx) (h .few) in
+        let least = mul-le-mul-right (p .sx) (h .some) in
+        let split : r * p .sx ≡ (r - 1 + 1) * p .sx = ap (λ (k : ℕ). k * p .sx) (omega (arith, h .least)) in
+        passes-at _ _ _ s c D e (W (f .xs) (f .ys)) _ (meets-later (away c D e (W (f .xs) (f .ys)) refl refl (inr h)) east (h .least) (h .most)) now
+        (omega (arith, h .time)) (omega (arith, h .time)) (omega arith) (omega (arith, step-placed p g ok b c D e (W (f .xs) (f .ys)) (inr h) .rises))
+
+    -- f's port is S and the packet goes there
+    down : (at : Place) → columnOf at ≡ f .xs → rowOf at ≡ f .ys → ltb 0 (ΔX (p .sx) f) ≡ false → columnOf at ≡ g .xd → Sound p g c D (placed e at)
+        → Passes p f g s c (placed e at) (sent p g c e (columnOf at) (rowOf at) South)
+    down at x y south turn h =
+        let go = placed-south p g ok c D e at h turn in
+        let most = mul-le-mul-right (p .sx) (go .few) in
+        let row : rowsDone (p .sy) g (rowOf at) ≡ r = ap (offset (p .sy) (g .ys)) y in
+        let rows : rowsDone (p .sy) g (rowOf at) * suc (p .sx) ≡ r * suc (p .sx) = ap (λ (k : ℕ). k * suc (p .sx)) row in
+        let cols : rowsDone (p .sy) g (rowOf at) * p .sx ≡ r * p .sx = ap (λ (k : ℕ). k * p .sx) row in
+        passes-at _ _ _ s c D e at South (meets-south (away c D e at x y h) south (sym x ∙ turn) (omega (arith, go .most))) now
+        (omega (arith, go .time)) (omega (arith, go .time)) (omega (arith, progress-row p g ok c D e at h)) (omega (arith, Path.south p g ok c D e (columnOf at) (rowOf at) go .rises))
+
+    -- either port
+    pub placed-passes : (at : Place) → columnOf at ≡ f .xs → rowOf at ≡ f .ys → TakesPort p b g at (portOf (p .sx) f) → Sound p g c D (placed e at)
+        → Passes p f g s c (placed e at) (sent p g c e (columnOf at) (rowOf at) (output p b g at))
+    placed-passes (W x y) xe ye t h =
+        elim (test (ltb 0 (ΔX (p .sx) f))) [
+          | inl east ↦ rw (xe, ye) (west east (rw (xe, ye) at h))
+          | inr south ↦ let turn : x ≡ g .xd = rw south at t in rw (eq-eqb x (g .xd) turn) (down (W x y) xe ye south turn h)
+        ]
+    placed-passes (N x y) xe ye t h =
+        elim (test (ltb 0 (ΔX (p .sx) f))) [
+          | inl east ↦ absurd (rw east at t)
+          | inr south ↦ let stays : westTurns p b x y ≡ false = rw south at t in rw stays (down (N x y) xe ye south (h .column) h)
+        ]
