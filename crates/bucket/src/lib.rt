@@ -1,7 +1,8 @@
 // The regulator of a flow: a token bucket by value. Rests on laws.
 ghost use mathlib.Core.Path.{_≡_};
-ghost use Prim.Native.Nat.{_<_, _≤_};
+ghost use Prim.Native.Nat.{_+_, _<_, _≤_};
 ghost use Rattle.bucket.specs.Regulator.{afterSpend, afterCount};
+ghost use Rattle.bucket.specs.Curve.{curve};
 
 pub struct Bucket {
     pub tokens: u32,
@@ -40,4 +41,12 @@ impl Bucket {
         }
         self
     }
+}
+
+// The most entries of a flow in d + 1 neighbouring cycles: its curve.
+pub fn most_entries(burst: u32, period: u32, d: u32) -> u32
+    requires { ⌜ (1 ≤ period) × (burst + d < 4294967296) ⌝ }
+    ensures { λ r. ⌜ r ≡ curve burst period d ⌝ }
+{
+    burst + d / period
 }

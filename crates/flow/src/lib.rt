@@ -1,7 +1,8 @@
 // A flow's plan numbers, its offsets on the torus and its port. Rests on laws and torus.
 ghost use mathlib.Core.Path.{_≡_};
 ghost use Prim.Native.Nat.{_<_};
-ghost use Rattle.flow.specs.Offsets.{ΔX, ΔY, portOf};
+ghost use Rattle.flow.specs.Offsets.{ΔX, ΔY, portOf, sameClient};
+ghost use Rattle.flow.specs.Plan.{onTorus};
 
 // The six plan numbers of a flow, in record order: source, destination, period P and burst σ.
 pub struct Flow {
@@ -20,6 +21,22 @@ pub enum Port {
 }
 
 impl Flow {
+    // Every coordinate is on a torus of sx columns and sy rows.
+    pub fn on_torus(self, sx: u32, sy: u32) -> bool
+        ensures { λ r. ⌜ r ≡ onTorus sx sy self ⌝ }
+    {
+        if sx <= self.xs {
+            return false;
+        }
+        if sy <= self.ys {
+            return false;
+        }
+        if sx <= self.xd {
+            return false;
+        }
+        self.yd < sy
+    }
+
     // ΔX, on a torus of sx columns.
     pub fn offset_x(self, sx: u32) -> u32
         requires { ⌜ (self .xs < sx) × (self .xd < sx) ⌝ }
@@ -45,5 +62,15 @@ impl Flow {
             return Port::East;
         }
         Port::South
+    }
+
+    // Whether two flows have one client.
+    pub fn same_client(self, other: Flow) -> bool
+        ensures { λ r. ⌜ r ≡ sameClient self other ⌝ }
+    {
+        if self.xs != other.xs {
+            return false;
+        }
+        self.ys == other.ys
     }
 }

@@ -95,3 +95,8 @@ module _ {A : Type 0} where
         | inr below ↦
             List·getD-append (tabulate n f) (f n ∷ []) d i (omega (arith, length-tabulate n f)) ∙ getD-tabulate n f i d below
       ]
+
+  -- a list is the table of its entries
+  pub is-tabulate : (l : List A) (n : ℕ) (f : ℕ → A) (d : A) → length l ≡ n → ((i : ℕ) → i < n → getD l i d ≡ f i) → l ≡ tabulate n f
+  is-tabulate l n f d long at =
+      ext-getD d l (tabulate n f) (long ∙ sym (length-tabulate n f)) (λ i h. at i (rw long at h) ∙ sym (getD-tabulate n f i d (rw long at h)))

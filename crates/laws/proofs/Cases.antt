@@ -1,5 +1,7 @@
 -- What a branch of the code tells of a test: the sets that `search` is handed where a definition goes by tests.
-use mathlib.Core.Bool.{Bool, true, false, not, _&&_}
+use mathlib.Core.Bool.{Bool, true, false, cond, not, _&&_, _||_}
+use Prim.Native.Nat.{ℕ, suc}
+use native.Mathlib.Omega.{arith}
 use mathlib.Core.Path.{_≡_, refl, sym, _∙_}
 use mathlib.Core.Logic.{_⊎_, inl, inr}
 use borrow.Author.Needs.{needs}
@@ -22,8 +24,17 @@ test false = inr refl
 
 pub and-true : (a b : Bool) → a && b ≡ true → (a ≡ true) × (b ≡ true)
 and-true true b e = (refl, e)
-and-true false b e = (e, absurd-false b e)
-  where
-    absurd-false : (b : Bool) → false ≡ true → b ≡ true
-    absurd-false true e = refl
-    absurd-false false e = e
+and-true false b e =
+    let z : _≡_ {A = ℕ} 0 1 = cc in
+    absurd (omega arith)
+
+pub or-false : (a b : Bool) → a || b ≡ false → (a ≡ false) × (b ≡ false)
+or-false false b e = (refl, e)
+or-false true b e =
+    let z : _≡_ {A = ℕ} 0 1 = cc in
+    absurd (omega arith)
+
+-- a number by tests is 0: the first test failed, and the rest is 0
+pub passed : (b : Bool) (n rest : ℕ) → cond b (suc n) rest ≡ 0 → (b ≡ false) × (rest ≡ 0)
+passed true n rest e = absurd (omega arith)
+passed false n rest e = (refl, e)

@@ -1,6 +1,7 @@
--- The laws: what the code's tests tell, bounded tests and sums, and loops.
+-- The laws: what the code's tests tell, bounded tests and sums, counts, parts of lists, and loops.
 pub mod Cases
 pub mod Bounded
 pub mod Sum
 pub mod Count
+pub mod Parts
 pub mod Turns

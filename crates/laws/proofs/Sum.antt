@@ -24,3 +24,9 @@ pub sum-mono : (f g : ℕ → ℕ) (n : ℕ) → ((i : ℕ) → i < n → f i �
 unfolding sumBelow
 sum-mono f g zero h = omega arith
 sum-mono f g (suc n) h = omega (arith, sum-mono f g n (λ i l. h i (omega arith)), h n (omega arith))
+
+-- n terms of at most c
+pub sum-most : (f : ℕ → ℕ) (c n : ℕ) → ((i : ℕ) → i < n → f i ≤ c) → sumBelow n f ≤ c * n
+unfolding sumBelow
+sum-most f c zero h = omega arith
+sum-most f c (suc n) h = omega (arith, sum-most f c n (λ i l. h i (omega arith)), h n (omega arith))

@@ -2,3 +2,4 @@
 pub mod Bounded
 pub mod Turns
 pub mod Count
+pub mod Grid

@@ -14,3 +14,7 @@ next size at = cond (eqb (at + 1) size) 0 (at + 1)
 -- (to − from) mod size, read as the size if that is 0
 unfoldable pub lap : ℕ → ℕ → ℕ → ℕ
 lap size from to = cond (eqb (offset size from to) 0) size (offset size from to)
+
+-- the column to the west, or the row to the north: before 0 comes the last
+unfoldable pub previous : ℕ → ℕ → ℕ
+previous size at = cond (eqb at 0) (size - 1) (at - 1)

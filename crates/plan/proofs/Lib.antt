@@ -1,0 +1,5 @@
+-- The laws of plan files.
+pub mod Refusals
+pub mod Accepted
+pub mod Ranges
+pub mod Written

@@ -1,0 +1,106 @@
+-- The plan of an accepted file lies in 01's ranges. Rests on Accepted.
+use mathlib.Core.Bool.{true, not, _&&_, _||_}
+use mathlib.Core.List.{List}
+use mathlib.Core.Path.{_≡_, sym, _∙_}
+use Prim.Native.Nat.{ℕ, _+_, _*_, _≤_, _<_}
+use native.Mathlib.Omega.{arith}
+use borrow.Author.Tests.{ltb-true, eqb-true, eqb-false, not-false}
+use lib.Dec.{ltb, eqb}
+use lib.ListN.{length, getD}
+use Rattle.laws.proofs.Bounded.{length-tabulate, getD-tabulate}
+use Rattle.laws.proofs.Cases.{and-true, or-false, passed}
+use Rattle.flow.specs.declared.Flow.{Flow}
+use Rattle.flow.specs.Plan.{FlowOk, PlanOk, flowAt, noFlow, onTorus}
+use Rattle.plan.specs.declared.Trailer.{Trailer}
+use Rattle.plan.specs.declared.Answer.the-variants.{Done}
+use Rattle.plan.specs.Bytes.{littleEndian2}
+use Rattle.plan.specs.Layout.{trailerOf, flowFrom, lastAt, recordAt, planOf}
+use Rattle.plan.specs.Refusals.{recordNumber, flowNumber, trailerNumber, answerOf, recordsAnswer, planAnswer}
+use Rattle.plan.proofs.Refusals.{or-else-done, first-done}
+use Rattle.plan.proofs.Accepted.{Trailed, done-trailed}
+
+-- a file's entries are bytes
+abbrev pub Bytes : List ℕ → Type 0
+Bytes file = (i : ℕ) → getD file i 0 < 256
+
+-- a record that is not refused: its numbers are in range, and its last byte is 0
+pub record RecordOk (sx sy : ℕ) (f : Flow) (last : ℕ) : Type 0 where
+  pub xs-on : f .xs < sx
+  pub ys-on : f .ys < sy
+  pub xd-on : f .xd < sx
+  pub yd-on : f .yd < sy
+  pub period-least : 1 ≤ f .period
+  pub burst-least : 1 ≤ f .burst
+  pub last-zero : last ≡ 0
+
+pub record-ok : (sx sy : ℕ) (f : Flow) (last : ℕ) → recordNumber sx sy f last ≡ 0 → RecordOk sx sy f last
+unfolding recordNumber
+record-ok sx sy f last e =
+    let six = passed (not (onTorus sx sy f)) 5 _ e in
+    let seven = passed (eqb (f .period) 0 || eqb (f .burst) 0 || not (eqb last 0)) 6 _ (six .1) in
+    let zeros = or-false (eqb (f .period) 0 || eqb (f .burst) 0) (not (eqb last 0)) (seven .0) in
+    let rates = or-false (eqb (f .period) 0) (eqb (f .burst) 0) (zeros .0) in
+    let p = eqb-false (f .period) 0 (rates .0) in
+    let b = eqb-false (f .burst) 0 (rates .1) in
+    let three = and-true (ltb (f .xs) sx && ltb (f .ys) sy && ltb (f .xd) sx) (ltb (f .yd) sy) (not-false (onTorus sx sy f) (six .0)) in
+    let two = and-true (ltb (f .xs) sx && ltb (f .ys) sy) (ltb (f .xd) sx) (three .0) in
+    let one = and-true (ltb (f .xs) sx) (ltb (f .ys) sy) (two .0) in
+    record {
+      xs-on = ltb-true _ _ (one .0);
+      ys-on = ltb-true _ _ (one .1);
+      xd-on = ltb-true _ _ (two .1);
+      yd-on = ltb-true _ _ (three .1);
+      period-least = omega arith;
+      burst-least = omega arith;
+      last-zero = eqb-true last 0 (not-false _ (zeros .1));
+    }
+
+-- every record of an accepted file
+pub done-records : (file : List ℕ) (v : ℕ) → planAnswer file ≡ Done v
+    → (f : ℕ) → f < (trailerOf file) .count
+    → let t = trailerOf file in RecordOk (t .sx) (t .sy) (flowFrom file (recordAt t f)) (lastAt file (recordAt t f))
+unfolding planAnswer flowNumber
+done-records file v e f l =
+    let parts = or-else-done (answerOf (trailerNumber file) 0) (recordsAnswer file (trailerOf file)) v e in
+    record-ok _ _ _ _ (first-done (flowNumber file (trailerOf file)) ((trailerOf file) .count) v (parts .2) f l)
+
+module _ (file : List ℕ) (v : ℕ) (e : planAnswer file ≡ Done v) where
+  -- flow f of the plan is the one that record f has
+  pub plan-flow : (f : ℕ) → f < (trailerOf file) .count → flowAt (planOf file) f ≡ flowFrom file (recordAt (trailerOf file) f)
+  unfolding planOf
+  plan-flow f l = getD-tabulate ((trailerOf file) .count) (λ f. flowFrom file (recordAt (trailerOf file) f)) f noFlow l
+
+  pub plan-count : length (planOf file .flows) ≡ (trailerOf file) .count
+  unfolding planOf
+  plan-count = length-tabulate ((trailerOf file) .count) (λ f. flowFrom file (recordAt (trailerOf file) f))
+
+  module _ (bytes : Bytes file) where
+    flow-ok : (f : ℕ) → f < (trailerOf file) .count → FlowOk ((trailerOf file) .sx) ((trailerOf file) .sy) (flowFrom file (recordAt (trailerOf file) f))
+    unfolding flowFrom littleEndian2
+    flow-ok f l =
+        let r = done-records file v e f l in
+        let at = recordAt (trailerOf file) f in
+        record {
+          xs-on = r .xs-on;
+          ys-on = r .ys-on;
+          xd-on = r .xd-on;
+          yd-on = r .yd-on;
+          period-least = r .period-least;
+          period-most = omega (arith, bytes (at + 4), bytes (at + 4 + 1));
+          burst-least = r .burst-least;
+          burst-most = omega (arith, bytes (at + 6));
+        }
+
+    pub plan-ok : PlanOk (planOf file)
+    unfolding planOf
+    plan-ok =
+        let t = done-trailed file v e in
+        record {
+          sx-least = t .frame .sx-ok .least;
+          sx-most = t .frame .sx-ok .most;
+          sy-least = t .frame .sy-ok .least;
+          sy-most = t .frame .sy-ok .most;
+          flows-least = rw plan-count (t .frame .count-least);
+          flows-most = rw plan-count (t .frame .count-most);
+          flow-ok = λ f l. let below = rw plan-count at l in rw (plan-flow f below) (flow-ok f below);
+        }

@@ -1,0 +1,48 @@
+-- `notes`: an accepted file starts its records within the file.
+use mathlib.Core.Path.{_≡_, sym, ap, _∙_}
+use native.Mathlib.Omega.{arith}
+use borrow.Author.Needs.{needs}
+use lib.ListN.{length}
+use lib.Seq.{length-take-le}
+use Prim.Native.Nat.{_≤_}
+use Rattle.plan.specs.Layout.{trailerOf}
+use Rattle.plan.specs.Notes.{notesOf}
+use Rattle.plan.proofs.Accepted.{Trailed, done-trailed}
+use Rattle.plan.proofs.notes.Statement.{statement}
+use Rattle.plan.proofs.notes.Tie as tie
+
+-- the file was accepted
+framed : (c : tie.After-enum-told) → Trailed (c .before .before .before .before .args .file .now)
+framed c = done-trailed _ _ (sym (c .before .before .answer-of .ensures) ∙ c .enum-told .given .1)
+
+read-trailer-requires : tie.Need-read-trailer-requires
+read-trailer-requires c κs = framed c .long
+
+slice-aggregate-result : tie.Need-slice-aggregate-result
+slice-aggregate-result c =
+    let t = framed (c .before .before .before) in
+    let e = c .before .before .read-trailer .ensures in
+    sym (length-take-le _ _ (rw e (omega arith)))
+
+returns : tie.Need-returns
+unfolding notesOf
+returns c =
+    rw (← (c .before .before .before .before .before .answer-of .ensures), c .before .before .before .enum-told .given .1, c .before .before .read-trailer .ensures)
+
+returns-2 : tie.Need-returns-2
+unfolding notesOf
+returns-2 c = rw (← (c .before .before .before .answer-of .ensures), c .before .enum-told2 .given .1)
+
+pub notes-spec : {M : Type 1} → statement M
+notes-spec =
+    tie.close
+    (tie.spec
+    (λ c. search needs)
+    (λ c. search needs)
+    read-trailer-requires
+    (λ c. search needs)
+    slice-aggregate-result
+    (λ c. search needs)
+    (λ c. search needs)
+    returns
+    returns-2)

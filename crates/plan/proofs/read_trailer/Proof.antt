@@ -1,0 +1,37 @@
+-- `read_trailer`: field by field, what the bytes' readers ensure.
+use borrow.Author.Needs.{needs}
+use mathlib.Core.Path.{ap₂}
+use Prim.Native.Nat.{ℕ, _+_, _*_}
+use Rattle.plan.specs.Bytes.{littleEndian4}
+use Rattle.plan.specs.Layout.{trailerOf}
+use Rattle.plan.proofs.read_trailer.Statement.{statement}
+use Rattle.plan.proofs.read_trailer.Tie as tie
+
+returns : tie.Need-returns
+unfolding trailerOf littleEndian4
+returns c = λ j. record {
+  start = c .before .before .before .before .before .before .two-bytes .ensures .0 j + 65536 * c .before .before .before .before .before .two-bytes2 .ensures .0 j;
+  count = c .before .before .before .before .two-bytes3 .ensures .0 j;
+  sx = c .before .before .wide .ensures .0 j;
+  sy = c .wide2 .ensures .0 j;
+}
+
+pub read-trailer-spec : {M : Type 1} → statement M
+read-trailer-spec =
+    tie.close
+    (tie.spec
+    (λ c. search needs)
+    (λ c. search needs)
+    (λ c. search needs)
+    (λ c. search needs)
+    (λ c. search needs)
+    (λ c. search needs)
+    (λ c. search needs)
+    (λ c. search needs)
+    (λ c. search needs)
+    (λ c. search needs)
+    (λ c. search needs)
+    (λ c. search needs)
+    (λ c. search needs)
+    (λ c. search needs)
+    returns)

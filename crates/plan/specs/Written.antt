@@ -1,0 +1,23 @@
+-- The bytes of a plan with given notes: notes, records, trailer (01, Torus and plan file).
+use mathlib.Core.List.{List, [], _∷_, _++_}
+use Prim.Native.Nat.{ℕ, zero, suc, _+_, _*_}
+use lib.ListN.{length}
+use Rattle.flow.specs.declared.Flow.{Flow}
+use Rattle.flow.specs.Plan.{Plan}
+use Rattle.plan.specs.Bytes.{twoBytes, fourBytes}
+use Rattle.plan.specs.Layout.{tag}
+
+-- xs, ys, xd, yd, P, σ and a zero byte
+unfoldable pub recordBytes : Flow → List ℕ
+recordBytes f = (f .xs ∷ f .ys ∷ f .xd ∷ f .yd ∷ []) ++ twoBytes (f .period) ++ (f .burst ∷ 0 ∷ [])
+
+unfoldable pub recordsBytes : List Flow → List ℕ
+recordsBytes [] = []
+recordsBytes (f ∷ fs) = recordBytes f ++ recordsBytes fs
+
+-- start, count F, Sx, Sy and the tag
+unfoldable pub trailerBytes : ℕ → Plan → List ℕ
+trailerBytes start p = fourBytes start ++ twoBytes (length (p .flows)) ++ (p .sx ∷ p .sy ∷ []) ++ tag
+
+unfoldable pub planBytes : List ℕ → Plan → List ℕ
+planBytes notes p = notes ++ recordsBytes (p .flows) ++ trailerBytes (length notes) p

@@ -1,0 +1,1 @@
+-- The laws of the state and its words.

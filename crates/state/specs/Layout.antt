@@ -1,0 +1,31 @@
+-- The layout of state memory: where its words stand, and its size (01, State memory).
+use Prim.Native.Nat.{ℕ, _+_, _*_}
+use Rattle.laws.specs.Grid.{cellIndex}
+
+-- Sx, Sy, F, clock, four zeros
+abbrev pub headerSize : ℕ
+headerSize = 8
+
+-- ten per flow
+abbrev pub flowSize : ℕ
+flowSize = 10
+
+-- four per link register
+abbrev pub registerSize : ℕ
+registerSize = 4
+
+-- a router has two link registers, W before N
+abbrev pub routerSize : ℕ
+routerSize = 2 * registerSize
+
+-- where the words of flow f stand
+abbrev pub flowPlace : ℕ → ℕ
+flowPlace f = headerSize + flowSize * f
+
+-- where the registers of the router in column x and row y stand, with F flows; registers run by row, then column
+abbrev pub routerPlace : (F sx x y : ℕ) → ℕ
+routerPlace F sx x y = flowPlace F + routerSize * cellIndex sx x y
+
+-- 8 + 10×F + 8×Sx×Sy
+abbrev pub stateSize : (F sx sy : ℕ) → ℕ
+stateSize F sx sy = flowPlace F + routerSize * (sx * sy)

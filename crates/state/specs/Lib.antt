@@ -1,0 +1,8 @@
+-- The state and its words, in 01's words.
+pub mod Layout
+pub mod State
+pub mod Words
+pub mod Read
+pub mod Forms
+pub mod Outcome
+pub mod Calls
