@@ -1,31 +1,27 @@
 -- Charging: a cycle in which a flow waits with a token and doesn't enter takes a packet of another flow past its source.
 -- Rests on Takers; the sum over flows against I(t) is in Interference.
 use mathlib.Core.Bool.{Bool, true, false, not, _&&_, false≢true}
-use mathlib.Core.List.{List, List·Memᴰ as Mem}
+use mathlib.Core.List.{List·Memᴰ as Mem}
 use mathlib.Core.Logic.{_⊎_, inl, inr, _≢_}
 use mathlib.Core.Path.{_≡_, refl, sym, ap, _∙_}
 use Prim.Native.Nat.{ℕ, suc, _+_, _≤_, _<_}
-use native.Mathlib.Nat.{le-refl}
 use native.Mathlib.Omega.{arith}
-use borrow.Author.Tests.{eq-eqb, ne-eqb, eqb-true, eqb-false, not-true, not-false}
+use borrow.Author.Tests.{ne-eqb, eqb-true, not-true, not-false}
 use lib.Dec.{ltb, eqb}
-use lib.ListN.{length}
-use Rattle.laws.specs.Count.{one, count, any}
+use Rattle.laws.specs.Count.{count, any}
 use Rattle.laws.proofs.Cases.{test, and-true}
 use Rattle.laws.proofs.Count.{any-true, count-any, count-map, count-mono, count-more}
 use Rattle.flow.specs.declared.Flow.{Flow}
-use Rattle.flow.specs.declared.Port.the-variants.{East, South}
 use Rattle.flow.specs.Offsets.{ΔX, portOf, sameClient}
 use Rattle.flow.specs.Plan.{Plan, flowAt, FlowOk, PlanOk}
-use Rattle.book.specs.Line.{Place, W, N, samePlace, Stage, waiting, placed, left, Line, isWaiting, standsIn, entryOf}
+use Rattle.book.specs.Line.{W, N, Stage, waiting, placed, left, Line, isWaiting, standsIn, entryOf}
 use Rattle.book.specs.Book.{Book, bucketAt, ofFlow, waitsFor}
-use Rattle.book.specs.Cycle.{full, turns, westTurns, isOpen, ready, enters, lowest, sent, moveStage, move, stepped}
-use Rattle.book.proofs.Path.{Sound, progress, step-entry}
-use Rattle.book.proofs.Entries.{Ready, client-same, parts-ready, some-enters}
+use Rattle.book.specs.Cycle.{full, turns, westTurns, isOpen, enters, lowest, moveStage, move, stepped}
+use Rattle.book.proofs.Path.{Sound, step-entry}
+use Rattle.book.proofs.Entries.{client-same, parts-ready, some-enters}
 use Rattle.book.proofs.Moves.{goes, moved-waits, moved-entry, sent-waits, sent-entry}
 use Rattle.book.proofs.Queue.{Queued, goes-count}
 use Rattle.book.proofs.Traced.{Traced, line-ok, moved-progress}
-use Rattle.book.proofs.Spans.{span}
 use Rattle.book.proofs.Meetings.{meeting, passed-yes, passed-stays}
 use Rattle.book.proofs.Takers.{Takes, Passes, passedAt, placed-passes, away}
 
@@ -37,12 +33,9 @@ turns-some : (p : Plan) (b : Book) (x y : ℕ) → westTurns p b x y ≡ true �
 unfolding westTurns
 turns-some p b x y e = e
 
-module _ (p : Plan) (ok : PlanOk p) (b : Book) (f : ℕ) (in-plan : f < length (p .flows)) (tr : Traced p b) (q : Queued b) where
+module _ (p : Plan) (ok : PlanOk p) (b : Book) (f : ℕ) (tr : Traced p b) (q : Queued b) where
   abbrev φ : Flow
   φ = flowAt p f
-
-  abbrev okf : FlowOk (p .sx) (p .sy) φ
-  okf = ok .flow-ok f in-plan
 
   -- who takes the port of f passes it in this step
   takes-passes : (s : ℕ) → s ≤ b .clock → (z : Line) → FlowOk (p .sx) (p .sy) (flowAt p (z .flow)) → (D : ℕ) (st : Stage)
@@ -57,7 +50,7 @@ module _ (p : Plan) (ok : PlanOk p) (b : Book) (f : ℕ) (in-plan : f < length (
             rw (t .0, t .1, sent-waits p ψ c c (ψ .xs) (ψ .ys) (portOf (p .sx) ψ), sent-entry p ψ c c (ψ .xs) (ψ .ys) (portOf (p .sx) ψ))
             (passed-yes 0 0 0 s (c + 1) c _ (omega arith) (omega arith) (step-entry p ψ okz c .rises));
       }
-  takes-passes s now z okz D (placed e at) h t = placed-passes p φ (flowAt p (z .flow)) okf okz b s (b .clock) D e now at (t .0) (t .1) (t .2) h
+  takes-passes s now z okz D (placed e at) h t = placed-passes p φ (flowAt p (z .flow)) okz b s (b .clock) D e now at (t .0) (t .1) (t .2) h
   takes-passes s now z okz D (left e t x y) h t′ = absurd t′
 
   takes-other : (z : Line) → FlowOk (p .sx) (p .sy) (flowAt p (z .flow)) → (D : ℕ) (st : Stage)
@@ -65,7 +58,7 @@ module _ (p : Plan) (ok : PlanOk p) (b : Book) (f : ℕ) (in-plan : f < length (
   takes-other z okz D waiting h t same = t .2 same
   takes-other z okz D (placed e at) h t same =
       false≢true
-      (sym (away p φ (flowAt p (z .flow)) okf okz (b .clock) D e at (t .0) (t .1) h)
+      (sym (away p φ (flowAt p (z .flow)) okz (b .clock) D e at (t .0) (t .1) h)
       ∙ client-same φ (flowAt p (z .flow)) (ap (λ (g : ℕ). (flowAt p g) .xs) (sym same)) (ap (λ (g : ℕ). (flowAt p g) .ys) (sym same)))
   takes-other z okz D (left e t x y) h t′ same = absurd t′
 
@@ -141,7 +134,7 @@ module _ (p : Plan) (ok : PlanOk p) (b : Book) (f : ℕ) (in-plan : f < length (
           (z .0, z .1, goes-takes (z .0) (z .0 .stage) (k .1) (ap (λ (h : ℕ). sameClient φ (flowAt p h)) own ∙ same) (omega arith))
 
   -- who has passed stays so
-  pub passed-step : (s : ℕ) (l : Line) → Mem l (b .lines) → passed p f s (b .clock) l ≡ true → passed p f s (b .clock + 1) (move p b l) ≡ true
+  passed-step : (s : ℕ) (l : Line) → Mem l (b .lines) → passed p f s (b .clock) l ≡ true → passed p f s (b .clock + 1) (move p b l) ≡ true
   passed-step s l m e =
       let ψ : Flow = flowAt p (l .flow) in
       let k = and-true (not (eqb (l .flow) f)) (passedAt p φ ψ s (b .clock) (l .stage)) e in
@@ -149,6 +142,11 @@ module _ (p : Plan) (ok : PlanOk p) (b : Book) (f : ℕ) (in-plan : f < length (
       let w = not-true (isWaiting (l .stage)) (h .0) in
       rw (k .0, moved-waits p b l (l .stage), moved-entry p b l (l .stage) w, w)
       (passed-stays (meeting (p .sx) (p .sy) φ ψ) s (b .clock) (b .clock + 1) (entryOf (l .stage)) _ _ (omega arith) (moved-progress p b l (line-ok p ok b tr l m) (l .D) (l .stage) (tr .sound l m)) (h .1))
+
+  pub passed-more : (s : ℕ) → count (passed p f s (b .clock)) (b .lines) ≤ count (passed p f s (b .clock + 1)) ((stepped p b) .lines)
+  passed-more s =
+      rw (count-map (passed p f s (b .clock + 1)) (move p b) (b .lines))
+      (count-mono (passed p f s (b .clock)) (λ l. passed p f s (b .clock + 1) (move p b l)) (b .lines) (passed-step s))
 
   -- the charging lemma: f waits with a token and doesn't enter
   pub charge : (s : ℕ) → s ≤ b .clock → any (waitsFor f) (b .lines) ≡ true → 1 ≤ (bucketAt b f) .tokens → enters p b f ≡ false

@@ -1,26 +1,25 @@
 -- What a step delivers is what left in it, whatever is asked of a delivery; so after every list of calls what was delivered is what has left.
 -- Rests on Traced.
-use mathlib.Core.Bool.{Bool, true, false, cond, not, _&&_, false≢true, and-false}
-use mathlib.Core.List.{List, [], _∷_, _++_, map, List·Memᴰ as Mem}
-use mathlib.Core.Logic.{_⊎_, inl, inr}
-use mathlib.Core.Path.{_≡_, refl, sym, ap, _∙_}
-use Prim.Native.Nat.{ℕ, zero, suc, _+_, _≤_, _<_}
+use mathlib.Core.Bool.{Bool, true, false, _&&_, and-false}
+use mathlib.Core.List.{List, map, List·Memᴰ as Mem}
+use mathlib.Core.Logic.{inl, inr}
+use mathlib.Core.Path.{_≡_, refl, sym, _∙_}
+use Prim.Native.Nat.{ℕ, _+_, _<_}
 use native.Mathlib.Nat.{add-zero}
 use native.Mathlib.Decide.{ℕ-discrete}
 use native.Mathlib.Omega.{arith}
 use borrow.Author.Tests.{eq-eqb, ne-eqb}
 use lib.Dec.{eqb}
-use Rattle.laws.specs.Bounded.{sumBelow}
-use Rattle.laws.specs.Count.{one, count, keep, joinBelow}
-use Rattle.laws.proofs.Cases.{test, and-true}
+use Rattle.laws.specs.Count.{one, count}
+use Rattle.laws.proofs.Cases.{test}
 use Rattle.laws.proofs.Sum.{sum-same}
-use Rattle.laws.proofs.Count.{mem-map, count-map, count-append, count-same, count-sum, count-keep, count-join, count-split}
+use Rattle.laws.proofs.Count.{count-map, count-same, count-sum, count-keep, count-join, count-split}
 use Rattle.flow.specs.declared.Flow.{Flow}
 use Rattle.flow.specs.declared.Port.{Port}
 use Rattle.flow.specs.declared.Port.the-variants.{East, South}
 use Rattle.flow.specs.Plan.{Plan, flowAt, FlowOk, PlanOk}
 use Rattle.book.specs.Line.{Stage, waiting, placed, left, Line, isLeft, leftAt, entryOf, exitOf}
-use Rattle.book.specs.Book.{Book, offered, offeredLine}
+use Rattle.book.specs.Book.{Book}
 use Rattle.book.specs.Cycle.{enters, lowest, sent, deflected, moveStage, move, stepped, Delivery, deliveryOf, exitsOf, deliveries}
 use Rattle.book.proofs.Path.{Sound}
 use Rattle.book.proofs.Traced.{Traced, line-ok, traced-step}

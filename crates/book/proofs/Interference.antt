@@ -1,37 +1,33 @@
--- What passes a flow's source in a window is at most I(t); and a window through which a flow waits with a token is no longer than
--- what passed and the flow's own entries. Rests on Charge, Spans and the windows' definitions.
-use mathlib.Core.Bool.{Bool, true, false, cond, not, _&&_, false≢true, and-false}
-use mathlib.Core.List.{List, List·Memᴰ as Mem}
-use mathlib.Core.Logic.{_⊎_, inl, inr}
+-- What passes a flow's source in a window is at most I(t). A window through which a flow waits with a token is no longer than what
+-- passed and the flow's own entries. Rests on Charge, Spans and the windows' definitions.
+use mathlib.Core.Bool.{Bool, true, false, not, _&&_, false≢true}
+use mathlib.Core.List.{[], _∷_}
+use mathlib.Core.Logic.{inl, inr}
 use mathlib.Core.Path.{_≡_, refl, sym, ap, _∙_}
-use Prim.Native.Nat.{ℕ, suc, _+_, _-_, _≤_, _<_}
+use Prim.Native.Nat.{ℕ, _+_, _-_, _≤_, _<_}
 use native.Mathlib.Nat.{le-trans}
 use native.Mathlib.Decide.{ℕ-discrete, decLt}
 use native.Mathlib.Omega.{arith}
 use borrow.Author.Tests.{lt-ltb, le-leb, eq-eqb, ne-eqb, eqb-true, not-true}
-use lib.Dec.{ltb, leb, eqb}
+use lib.Dec.{eqb}
 use lib.ListN.{length}
-use Rattle.laws.specs.Bounded.{sumBelow}
 use Rattle.laws.specs.Count.{one, count, any}
 use Rattle.laws.proofs.Cases.{test, and-true}
-use Rattle.laws.proofs.Count.{count-none, count-mono, count-split, count-map}
+use Rattle.laws.proofs.Count.{count-none, count-mono, count-split, count-append}
 use Rattle.laws.proofs.Sum.{sum-mono}
-use Rattle.flow.specs.declared.Flow.{Flow}
 use Rattle.flow.specs.Plan.{Plan, flowAt, PlanOk}
-use Rattle.bucket.specs.Curve.{curve}
 use Rattle.bucket.proofs.Regulator.{Regulated, enters-at-most}
-use Rattle.window.specs.Conflict.{conflict}
 use Rattle.window.specs.Window.{share, shareOf, interference}
 use Rattle.book.specs.Line.{Line, isWaiting, entryOf}
-use Rattle.book.specs.Book.{Book, bucketAt, ofFlow, waitsFor}
-use Rattle.book.specs.Cycle.{enters, move, stepped}
+use Rattle.book.specs.Book.{Book, bucketAt, ofFlow, waitsFor, offered, offeredLine}
+use Rattle.book.specs.Cycle.{enters, stepped}
 use Rattle.book.proofs.Path.{progress}
 use Rattle.book.proofs.Queue.{Queued}
 use Rattle.book.proofs.Traced.{Traced}
-use Rattle.book.proofs.Spans.{span, enteredIn, AllRegulated, span-new}
+use Rattle.book.proofs.Spans.{span, enteredIn, AllRegulated, span-offer, span-new}
 use Rattle.book.proofs.Meetings.{Meeting, never, meets, meeting, spreadOf, meeting-conflict, passedBy, passed-parts}
 use Rattle.book.proofs.Takers.{passedAt}
-use Rattle.book.proofs.Charge.{passed, charge, passed-step}
+use Rattle.book.proofs.Charge.{passed, passed-more, charge}
 
 module _ (p : Plan) (b : Book) (f s : ℕ) where
   -- the lines of flow g that passed f
@@ -107,21 +103,36 @@ module _ (p : Plan) (b : Book) (f s : ℕ) where
       rw (count-split (passed p f s (b .clock)) (λ l. l .flow) (length (p .flows)) (b .lines) (λ l m t. tr .known l m))
       (sum-mono _ (shareOf p f (b .clock - s)) (length (p .flows)) (λ g l. of-flow late g (held g l)))
 
--- what passed f from cycle s on, and f's own entries
-abbrev pub taken : Plan → Book → (f s : ℕ) → ℕ
-taken p b f s = count (passed p f s (b .clock)) (b .lines) + span b f s (b .clock)
+-- the cycles from s to the clock were each taken by a packet that passed f or by an entry of f: so they are through a window in which
+-- f waits with a token
+pub record Busy (p : Plan) (b : Book) (f s : ℕ) : Type 0 where
+  pub now : s ≤ b .clock
+  pub taken : b .clock ≤ s + (count (passed p f s (b .clock)) (b .lines) + span b f s (b .clock))
 
--- a cycle in which f waits with a token is taken by a packet that passes or by f's own entry: so a window through which f waits with
--- a token is no longer than what was taken
-pub cycle-taken : (p : Plan) (ok : PlanOk p) (b : Book) (f : ℕ) → f < length (p .flows) → Traced p b → Queued b → AllRegulated p b
-    → (s : ℕ) → s ≤ b .clock → any (waitsFor f) (b .lines) ≡ true → 1 ≤ (bucketAt b f) .tokens → suc (taken p b f s) ≤ taken p (stepped p b) f s
-cycle-taken p ok b f in-plan tr q held s now w token =
-    let own = span-new p ok b held tr q f s now in
-    elim (test (enters p b f)) [
-      | inr out ↦ omega (arith, charge p ok b f in-plan tr q s now w token out, ap one out)
-      | inl go ↦
-          let kept : count (passed p f s (b .clock)) (b .lines) ≤ count (passed p f s (b .clock + 1)) ((stepped p b) .lines) =
-          rw (count-map (passed p f s (b .clock + 1)) (move p b) (b .lines))
-          (count-mono (passed p f s (b .clock)) (λ l. passed p f s (b .clock + 1) (move p b l)) (b .lines) (passed-step p ok b f in-plan tr q s)) in
-          omega (arith, ap one go)
-    ]
+-- a window of no cycles
+pub busy-start : (p : Plan) (b : Book) (f : ℕ) → Busy p b f (b .clock)
+busy-start p b f = record { now = omega arith; taken = omega arith }
+
+pub busy-offer : (p : Plan) (b : Book) (f g s : ℕ) → Busy p b f s → Busy p (offered b g) f s
+busy-offer p b f g s h =
+    record {
+      now = h .now;
+      taken = omega (arith, h .taken, count-append (passed p f s (b .clock)) (b .lines) (offeredLine b g ∷ []), span-offer b g f s (b .clock));
+    }
+
+module _ (p : Plan) (ok : PlanOk p) (b : Book) (f : ℕ) (in-plan : f < length (p .flows)) (tr : Traced p b) (q : Queued b) (held : AllRegulated p b) (s : ℕ) (busy : Busy p b f s) where
+  -- a cycle more, with f waiting and with a token
+  pub busy-step : any (waitsFor f) (b .lines) ≡ true → 1 ≤ (bucketAt b f) .tokens → Busy p (stepped p b) f s
+  busy-step w token =
+      let own = span-new p ok b held tr q f s (busy .now) in
+      record {
+        now = omega (arith, busy .now);
+        taken = elim (test (enters p b f)) [
+          | inr out ↦ omega (arith, busy .taken, charge p ok b f tr q s (busy .now) w token out, ap one out)
+          | inl go ↦ omega (arith, busy .taken, passed-more p ok b f tr q s, ap one go)
+        ];
+      }
+
+  -- the window is no longer than I of its length and f's own entries
+  pub busy-most : s < b .clock → b .clock - s ≤ interference p f (b .clock - s) + span b f s (b .clock)
+  busy-most late = omega (arith, busy .taken, passes p b f s late tr held)

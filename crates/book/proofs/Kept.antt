@@ -1,10 +1,10 @@
 -- What every list of calls keeps: the paths, queues, buckets, places and paces of the book, and the bounds of its numbers.
 -- Rests on the files that keep each of them through an offer and a step.
-use mathlib.Core.Bool.{Bool, true, false, cond, not, _&&_, false≢true}
-use mathlib.Core.List.{List, [], _∷_, _++_, List·Memᴰ as Mem}
-use mathlib.Core.Logic.{_⊎_, inl, inr, _≢_}
+use mathlib.Core.Bool.{Bool, true}
+use mathlib.Core.List.{List, [], _∷_}
+use mathlib.Core.Logic.{inl, inr, _≢_}
 use mathlib.Core.Path.{_≡_, refl, sym, ap, _∙_}
-use Prim.Native.Nat.{ℕ, zero, suc, _+_, _*_, _≤_, _<_}
+use Prim.Native.Nat.{ℕ, suc, _+_, _≤_, _<_}
 use native.Mathlib.Nat.{le-trans}
 use native.Mathlib.Decide.{ℕ-discrete}
 use native.Mathlib.Omega.{arith}
@@ -12,15 +12,15 @@ use borrow.Author.Tests.{leb-false, eqb-false, ne-eqb}
 use lib.Dec.{ltb, leb, eqb}
 use lib.ListN.{length}
 use Rattle.laws.specs.Bounded.{tabulate}
-use Rattle.laws.specs.Count.{one, count}
+use Rattle.laws.specs.Count.{count}
 use Rattle.laws.proofs.Cases.{test, and-true}
 use Rattle.laws.proofs.Count.{one-most, count-map, count-append, count-mono}
 use Rattle.flow.specs.Plan.{Plan, flowAt, PlanOk}
 use Rattle.window.specs.Window.{interference}
-use Rattle.book.specs.Line.{Place, Line, isWaiting}
+use Rattle.book.specs.Line.{Line, isWaiting}
 use Rattle.book.specs.Book.{Book, ofFlow, waitsFor, waitingOf, enteredOf, start, offered, offeredLine}
-use Rattle.book.specs.Cycle.{enters, move, stepped, Delivery, deliveries}
-use Rattle.book.specs.Calls.{Call, offer, step, refused, refusal, roomFor, lastClock, mostWaiting, Fed, accepted, judged, feed, runFrom, run}
+use Rattle.book.specs.Cycle.{enters, move, stepped, Delivery}
+use Rattle.book.specs.Calls.{Call, offer, step, refused, refusal, roomFor, lastClock, mostWaiting, Fed, accepted, feed, runFrom, run}
 use Rattle.book.proofs.Moves.{moved-waits}
 use Rattle.book.proofs.Queue.{Queued, queued-step, queued-offer, entered-step, entered-offer}
 use Rattle.book.proofs.Traced.{Traced, traced-step, traced-offer}

@@ -14,3 +14,6 @@ pub mod Outputs
 pub mod Places
 pub mod Deliveries
 pub mod Kept
+pub mod State
+pub mod Promises
+pub mod Cases

@@ -1,15 +1,14 @@
 -- What a step does to one line, whatever its way: entry, waiting and leaving. Rests on specs/Cycle.
-use mathlib.Core.Bool.{Bool, true, false, cond, not, _&&_, false≢true}
-use mathlib.Core.Logic.{_⊎_, inl, inr}
-use mathlib.Core.Path.{_≡_, refl, sym, ap, _∙_}
-use Prim.Native.Nat.{ℕ, suc, _+_, _≤_, _<_}
+use mathlib.Core.Bool.{Bool, true, false, not, _&&_, false≢true}
+use mathlib.Core.Logic.{inl, inr}
+use mathlib.Core.Path.{_≡_, refl, sym}
+use Prim.Native.Nat.{ℕ}
 use lib.Dec.{eqb}
 use Rattle.laws.proofs.Cases.{test}
 use Rattle.flow.specs.declared.Flow.{Flow}
 use Rattle.flow.specs.declared.Port.{Port}
 use Rattle.flow.specs.declared.Port.the-variants.{East, South}
-use Rattle.flow.specs.Offsets.{portOf}
-use Rattle.flow.specs.Plan.{Plan, flowAt}
+use Rattle.flow.specs.Plan.{Plan}
 use Rattle.book.specs.Line.{Stage, waiting, placed, left, Line, isWaiting, entryOf}
 use Rattle.book.specs.Book.{Book}
 use Rattle.book.specs.Cycle.{enters, lowest, sent, moveStage}

@@ -1,26 +1,26 @@
 -- One output carries one packet. Rests on Entries and Queue.
 use mathlib.Core.Bool.{Bool, true, false, cond, not, _&&_, _||_, false≢true, and-false, or-false}
-use mathlib.Core.List.{List, List·Memᴰ as Mem}
-use mathlib.Core.Logic.{_⊎_, inl, inr}
+use mathlib.Core.List.{List·Memᴰ as Mem}
+use mathlib.Core.Logic.{inl, inr}
 use mathlib.Core.Path.{_≡_, refl, sym, ap, _∙_}
-use Prim.Native.Nat.{ℕ, _+_, _≤_, _<_}
+use Prim.Native.Nat.{ℕ, _+_, _≤_}
 use native.Mathlib.Nat.{le-trans}
-use native.Mathlib.Decide.{ℕ-discrete, decLe}
+use native.Mathlib.Decide.{ℕ-discrete}
 use native.Mathlib.Omega.{arith}
 use borrow.Author.Tests.{eq-eqb, ne-eqb, eqb-true, not-false}
-use lib.Dec.{ltb, eqb}
+use lib.Dec.{eqb}
 use Rattle.laws.specs.Count.{one, count, any}
 use Rattle.laws.proofs.Cases.{test, and-true}
 use Rattle.laws.proofs.Count.{one-most, any-true, any-mem, mem-count, any-count, none-count, count-mono, count-sum}
 use Rattle.flow.specs.declared.Flow.{Flow}
 use Rattle.flow.specs.declared.Port.{Port}
 use Rattle.flow.specs.declared.Port.the-variants.{East, South}
-use Rattle.flow.specs.Offsets.{ΔX, portOf, sameClient}
+use Rattle.flow.specs.Offsets.{portOf}
 use Rattle.flow.specs.Plan.{Plan, flowAt}
-use Rattle.book.specs.Line.{Place, W, N, columnOf, rowOf, Stage, waiting, placed, left, Line, isWaiting, standsIn}
+use Rattle.book.specs.Line.{Place, W, N, Stage, waiting, placed, left, Line, isWaiting, standsIn}
 use Rattle.book.specs.Book.{Book, ofFlow}
-use Rattle.book.specs.Cycle.{samePort, full, turns, westTurns, output, isOpen, enters, lowest, leaves, leavesBy}
-use Rattle.book.proofs.Entries.{Ready, client-same, entering-ready, one-enters}
+use Rattle.book.specs.Cycle.{samePort, full, turns, westTurns, isOpen, enters, lowest, leaves, leavesBy}
+use Rattle.book.proofs.Entries.{client-same, entering-ready, one-enters}
 use Rattle.book.proofs.Moves.{goes}
 use Rattle.book.proofs.Queue.{Queued, goes-count}
 

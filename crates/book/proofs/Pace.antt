@@ -1,50 +1,45 @@
 -- The entry bound: a flow with I(T) < T gets each waiting line in within P + T − 1 cycles of being the head. Rests on Interference
 -- and the regulator's two laws.
-use mathlib.Core.Bool.{Bool, true, false, cond, not, _&&_, false≢true}
-use mathlib.Core.List.{List, [], _∷_, List·Memᴰ as Mem}
+use mathlib.Core.Bool.{true, false, _&&_, false≢true}
+use mathlib.Core.List.{List·Memᴰ as Mem}
 use mathlib.Core.Logic.{_⊎_, inl, inr}
-use mathlib.Core.Path.{_≡_, refl, sym, ap, _∙_}
-use Prim.Native.Nat.{ℕ, zero, suc, _+_, _-_, _*_, _≤_, _<_}
+use mathlib.Core.Path.{_≡_, sym, ap, _∙_}
+use Prim.Native.Nat.{ℕ, suc, _+_, _-_, _*_, _≤_, _<_}
 use native.Mathlib.Nat.{add-zero, mul-le-mul-right}
 use native.Mathlib.Decide.{ℕ-discrete, decLt}
 use native.Mathlib.Omega.{arith}
 use borrow.Author.Tests.{eq-eqb, not-false}
 use lib.ListN.{length}
-use Rattle.laws.specs.Count.{one, count, any}
+use Rattle.laws.specs.Count.{one, any}
 use Rattle.laws.proofs.Cases.{test, and-true}
-use Rattle.laws.proofs.Bounded.{getD-tabulate}
-use Rattle.laws.proofs.Count.{mem-map, mem-snoc, any-mem, count-append, count-sum}
-use Rattle.flow.specs.declared.Flow.{Flow}
-use Rattle.flow.specs.Plan.{Plan, flowAt, FlowOk, PlanOk}
-use Rattle.bucket.specs.declared.Bucket.{Bucket}
-use Rattle.bucket.specs.Regulator.{fullBucket, afterCycle}
+use Rattle.laws.proofs.Count.{mem-map, mem-snoc, any-mem}
+use Rattle.flow.specs.Plan.{Plan, flowAt, PlanOk}
+use Rattle.bucket.specs.Regulator.{afterCycle}
 use Rattle.bucket.proofs.Regulator.{Regulated, wait, wait-most, wait-some, wait-less, token-stays}
 use Rattle.window.specs.Window.{interference}
-use Rattle.book.specs.Line.{Stage, Line, isWaiting, entryOf}
-use Rattle.book.specs.Book.{Book, bucketAt, ofFlow, waitsFor, enteredFor, totalOf, waitingOf, enteredOf, start, offered, offeredLine}
+use Rattle.book.specs.Line.{Line, isWaiting, entryOf}
+use Rattle.book.specs.Book.{Book, bucketAt, waitsFor, totalOf, waitingOf, enteredOf, start, offered}
 use Rattle.book.specs.Cycle.{enters, lowest, move, stepped}
-use Rattle.book.proofs.Entries.{entering-ready}
 use Rattle.book.proofs.Moves.{moved-waits, moved-entry, new-entry}
-use Rattle.book.proofs.Queue.{Queued, waits-past, entered-step, entered-offer, total-split}
+use Rattle.book.proofs.Queue.{Queued, queued-step, waits-past, entered-step, entered-offer, total-split}
 use Rattle.book.proofs.Traced.{Traced, traced-step}
-use Rattle.book.proofs.Spans.{span, AllRegulated, bucket-step, regulated-start, regulated-step}
-use Rattle.book.proofs.Charge.{passed, charge}
-use Rattle.book.proofs.Interference.{passes}
+use Rattle.book.proofs.Spans.{span, AllRegulated, span-none, span-offer, span-new, bucket-step, regulated-start, regulated-step}
+use Rattle.book.proofs.Interference.{Busy, busy-start, busy-offer, busy-step, busy-most}
 
 -- flow f's head has been so since cycle `from`, without a token as yet
 pub record Empty (p : Plan) (b : Book) (f from : ℕ) : Type 0 where
   pub none : (bucketAt b f) .tokens ≡ 0
   pub soon : b .clock + wait ((flowAt p f) .period) (bucketAt b f) < from + (flowAt p f) .period
 
--- or with one since cycle s, and each cycle since then took a packet past f
+-- or with one since a cycle, and each cycle since then took a packet past f
 pub record Held (p : Plan) (b : Book) (f T from : ℕ) : Type 0 where
   pub since : ℕ
   pub token : 1 ≤ (bucketAt b f) .tokens
   pub after : from ≤ since
   pub soon : since < from + (flowAt p f) .period
-  pub now : since ≤ b .clock
   pub short : b .clock < since + T
-  pub charged : b .clock ≤ since + count (passed p f since (b .clock)) (b .lines)
+  pub busy : Busy p b f since
+  pub alone : span b f since (b .clock) ≡ 0
 
 -- the pace of flow f, H = P + T − 1: each waiting line has H cycles for itself and for each line ahead of it
 pub record Pace (p : Plan) (b : Book) (f T H : ℕ) : Type 0 where
@@ -71,9 +66,9 @@ module _ (p : Plan) (ok : PlanOk p) (f : ℕ) (in-plan : f < length (p .flows)) 
               token = omega arith;
               after = omega arith;
               soon = omega (arith, ok .flow-ok f in-plan .period-least);
-              now = omega arith;
               short = omega arith;
-              charged = omega arith;
+              busy = busy-start p b f;
+              alone = span-none b f (b .clock);
             })
       ]
 
@@ -128,9 +123,9 @@ module _ (p : Plan) (ok : PlanOk p) (f : ℕ) (in-plan : f < length (p .flows)) 
               token = h .token;
               after = h .after;
               soon = h .soon;
-              now = h .now;
               short = h .short;
-              charged = omega (arith, h .charged, count-append (passed p f (h .since) (b .clock)) (b .lines) (offeredLine b g ∷ []));
+              busy = busy-offer p b f g (h .since) (h .busy);
+              alone = span-offer b g f (h .since) (b .clock) ∙ h .alone;
             }
 
     module _ (tr : Traced p b) (q : Queued b) (held : AllRegulated p b) where
@@ -184,15 +179,18 @@ module _ (p : Plan) (ok : PlanOk p) (f : ℕ) (in-plan : f < length (p .flows)) 
           bucket : bucketAt (stepped p b) f ≡ afterCycle ((flowAt p f) .burst) P false (bucketAt b f)
           bucket = rw (bucket-step p b f in-plan, out)
 
-          -- else T cycles were taken by at most I(T) packets
-          short : (h : Held p b f T (pace .from)) → suc (count (passed p f (h .since) (b .clock)) (b .lines)) ≤ count (passed p f (h .since) (b .clock + 1)) ((stepped p b) .lines)
-              → b .clock + 1 < h .since + T
-          short h charged =
+          -- else a window of T cycles was taken by I(T) packets at most
+          short : (h : Held p b f T (pace .from)) → Busy p (stepped p b) f (h .since) → span (stepped p b) f (h .since) (b .clock + 1) ≡ 0 → b .clock + 1 < h .since + T
+          short h busy alone =
               elim (decLt (b .clock + 1) (h .since + T)) [
                 | yes l ↦ l
                 | no l ↦
                     let all : b .clock + 1 - h .since ≡ T = omega (arith, h .short) in
-                    absurd (omega (arith, h .charged, passes p (stepped p b) f (h .since) (omega (arith, h .now)) (traced-step p ok b tr) later, ap (interference p f) all))
+                    absurd (omega (
+                      arith,
+                      ap (interference p f) all,
+                      busy-most p ok (stepped p b) f in-plan (traced-step p ok b tr) (queued-step b q p) later (h .since) busy (omega (arith, h .busy .now)),
+                    ))
               ]
 
           turn : Empty p b f (pace .from) ⊎ Held p b f T (pace .from) → Empty p (stepped p b) f (pace .from) ⊎ Held p (stepped p b) f T (pace .from)
@@ -207,21 +205,23 @@ module _ (p : Plan) (ok : PlanOk p) (f : ℕ) (in-plan : f < length (p .flows)) 
                       token = omega arith;
                       after = omega (arith, pace .begun);
                       soon = omega (arith, h .soon, wait-some _ _ (bucketAt b f) (b .clock) (span b f) old (h .none));
-                      now = omega arith;
                       short = omega arith;
-                      charged = omega arith;
+                      busy = busy-start p (stepped p b) f;
+                      alone = span-none (stepped p b) f (b .clock + 1);
                     })
               ]
           turn (inr h) =
-              let charged = charge p ok b f in-plan tr q (h .since) (h .now) waits (h .token) out in
+              let busy : Busy p (stepped p b) f (h .since) = busy-step p ok b f in-plan tr q held (h .since) (h .busy) waits (h .token) in
+              let alone : span (stepped p b) f (h .since) (b .clock + 1) ≡ 0 =
+              span-new p ok b held tr q f (h .since) (h .busy .now) ∙ omega (arith, h .alone, ap one out) in
               inr (record {
                 since = h .since;
                 token = rw bucket (token-stays _ _ (bucketAt b f) (b .clock) (span b f) old (h .token));
                 after = h .after;
                 soon = h .soon;
-                now = omega (arith, h .now);
-                short = short h charged;
-                charged = omega (arith, h .charged);
+                short = short h busy alone;
+                busy = busy;
+                alone = alone;
               })
 
       pub pace-step : Pace p (stepped p b) f T H

@@ -1,14 +1,14 @@
 -- The path of a packet: 01's in-place conditions, told without differences, and its progress. One step keeps the conditions
 -- and raises the progress. Only this file and its laws know the topology. Rests on the rules 1 and 2 of specs/Cycle.
-use mathlib.Core.Bool.{Bool, true, false, cond, not, _&&_, false≢true}
+use mathlib.Core.Bool.{false, cond, false≢true}
 use mathlib.Core.Logic.{_⊎_, inl, inr, _≢_}
 use mathlib.Core.Path.{_≡_, refl, sym, ap, _∙_}
-use Prim.Native.Nat.{ℕ, zero, suc, _+_, _-_, _*_, _≤_, _<_}
+use Prim.Native.Nat.{ℕ, suc, _+_, _*_, _≤_, _<_}
 use native.Mathlib.Nat.{add-zero, mul-le-mul-right}
 use native.Mathlib.Decide.{ℕ-discrete, decLt}
 use native.Mathlib.Omega.{arith}
-use borrow.Author.Tests.{lt-ltb, le-ltb, le-leb, eq-eqb, ne-eqb}
-use lib.Dec.{ltb, leb, eqb}
+use borrow.Author.Tests.{lt-ltb, le-ltb, eq-eqb, ne-eqb}
+use lib.Dec.{eqb}
 use Rattle.laws.specs.Count.{one}
 use Rattle.laws.proofs.Cases.{test}
 use Rattle.torus.specs.Ring.{offset, next, lap}
@@ -268,15 +268,7 @@ module _ (p : Plan) (f : Flow) (ok : FlowOk (p .sx) (p .sy) f) where
   placed-on c D e (W x y) (inl h) = (h .column, rw (h .row) (ok .ys-on))
   placed-on c D e (W x y) (inr h) = (h .column, h .row)
 
-  -- an entered packet has made progress, and entered in an earlier cycle
-  pub entered-progress : (c D : ℕ) (s : Stage) → Sound p f c D s → isWaiting s ≡ false → 1 ≤ progress p f s
-  entered-progress c D waiting h e = absurd (false≢true (sym e))
-  entered-progress c D (placed e (N x y)) h n = omega (arith, mul-le-mul-right (suc (p .sx)) (h .least))
-  entered-progress c D (placed e (W x y)) (inl h) n =
-      omega (arith, h .least, along-first x y (ap r (h .row) ∙ first-row))
-  entered-progress c D (placed e (W x y)) (inr h) n = omega (arith, mul-le-mul-right (suc (p .sx)) (h .least))
-  entered-progress c D (left e t x y) h n = omega arith
-
+  -- an entered packet entered in an earlier cycle
   pub entered-before : (c D : ℕ) (s : Stage) → Sound p f c D s → isWaiting s ≡ false → entryOf s < c
   entered-before c D waiting h e = absurd (false≢true (sym e))
   entered-before c D (placed e (N x y)) h n = omega (arith, h .time, h .least)

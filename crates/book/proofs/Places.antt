@@ -1,14 +1,14 @@
 -- No two lines share a place: each register is fed by one output of one router, and an output carries one packet. Rests on Outputs.
-use mathlib.Core.Bool.{Bool, true, false, cond, not, _&&_, false≢true}
-use mathlib.Core.List.{List, [], _∷_, List·Memᴰ as Mem}
-use mathlib.Core.Logic.{_⊎_, inl, inr}
-use mathlib.Core.Path.{_≡_, refl, sym, ap, _∙_}
-use Prim.Native.Nat.{ℕ, _+_, _≤_, _<_}
+use mathlib.Core.Bool.{Bool, true, _&&_, false≢true}
+use mathlib.Core.List.{[], _∷_, List·Memᴰ as Mem}
+use mathlib.Core.Logic.{inl, inr}
+use mathlib.Core.Path.{_≡_, refl, sym, _∙_}
+use Prim.Native.Nat.{ℕ, _≤_, _<_}
 use native.Mathlib.Nat.{le-trans}
 use native.Mathlib.Omega.{arith}
 use borrow.Author.Tests.{eq-eqb, eqb-true}
 use lib.Dec.{eqb}
-use Rattle.laws.specs.Count.{one, count, any}
+use Rattle.laws.specs.Count.{count, any}
 use Rattle.laws.proofs.Cases.{test, and-true}
 use Rattle.laws.proofs.Count.{any-true, none-count, count-map, count-mono, count-append}
 use Rattle.torus.specs.Ring.{next}

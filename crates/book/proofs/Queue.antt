@@ -1,14 +1,14 @@
 -- A flow's queue: its serials are 1..n in the order of its offers, the entered ones first; so the waiting line of lowest
 -- serial has the serial entered + 1, and one line enters where its flow does. Rests on Moves.
-use mathlib.Core.Bool.{Bool, true, false, cond, not, _&&_, false≢true, and-false}
+use mathlib.Core.Bool.{Bool, true, false, not, _&&_, and-false}
 use mathlib.Core.List.{List, [], _∷_, _++_, map, append-nil, List·Memᴰ as Mem}
 use mathlib.Core.Logic.{_⊎_, inl, inr, _≢_}
 use mathlib.Core.Path.{_≡_, refl, sym, ap, _∙_}
 use Prim.Native.Nat.{ℕ, zero, suc, _+_, _≤_, _<_}
-use native.Mathlib.Decide.{ℕ-discrete, decLt}
+use native.Mathlib.Decide.{ℕ-discrete}
 use native.Mathlib.Nat.{add-zero}
 use native.Mathlib.Omega.{arith}
-use borrow.Author.Tests.{lt-ltb, le-ltb, ltb-true, ltb-false, eq-eqb, ne-eqb, eqb-true, not-true}
+use borrow.Author.Tests.{lt-ltb, le-ltb, ltb-true, ltb-false, eq-eqb, ne-eqb, eqb-true}
 use lib.Dec.{ltb, eqb}
 use Rattle.laws.specs.Bounded.{tabulate}
 use Rattle.laws.specs.Count.{one, count, any, keep}
@@ -16,9 +16,9 @@ use Rattle.laws.proofs.Cases.{test, and-true}
 use Rattle.laws.proofs.Bounded.{tabulate-more}
 use Rattle.laws.proofs.Count.{mem-map, mem-snoc, any-true, any-mem, mem-count, count-any, count-append, count-map, count-same, count-sum, count-none, count-mono, count-keep}
 use Rattle.flow.specs.Plan.{Plan}
-use Rattle.book.specs.Line.{Stage, waiting, Line, isWaiting}
+use Rattle.book.specs.Line.{Line, isWaiting}
 use Rattle.book.specs.Book.{Book, ofFlow, waitsFor, enteredFor, totalOf, waitingOf, enteredOf, offered, offeredLine}
-use Rattle.book.specs.Cycle.{ready, enters, lowest, move, stepped}
+use Rattle.book.specs.Cycle.{enters, lowest, move, stepped}
 use Rattle.book.proofs.Entries.{entering-ready}
 use Rattle.book.proofs.Moves.{goes, moved-waits}
 
@@ -92,7 +92,7 @@ module _ (b : Book) (q : Queued b) where
   pub waits-past : (l : Line) → Mem l (b .lines) → isWaiting (l .stage) ≡ true → enteredOf b (l .flow) < l .serial
   waits-past l m w = ltb-true (enteredOf b (l .flow)) (l .serial) (sym (q .entered-first l m) ∙ w)
 
-  entered-within : (l : Line) → Mem l (b .lines) → isWaiting (l .stage) ≡ false → l .serial ≤ enteredOf b (l .flow)
+  pub entered-within : (l : Line) → Mem l (b .lines) → isWaiting (l .stage) ≡ false → l .serial ≤ enteredOf b (l .flow)
   entered-within l m w = ltb-false (enteredOf b (l .flow)) (l .serial) (sym (q .entered-first l m) ∙ w)
 
   -- the waiting line of lowest serial is the one after the entered ones

@@ -1,20 +1,18 @@
 -- How often a flow entered in a span of cycles, read off the lines; every flow's bucket is regulated with it. Rests on Queue and Traced.
-use mathlib.Core.Bool.{Bool, true, false, not, _&&_, false≢true, and-false}
-use mathlib.Core.List.{List, [], _∷_, List·Memᴰ as Mem}
-use mathlib.Core.Logic.{_⊎_, inl, inr}
-use mathlib.Core.Path.{_≡_, refl, sym, ap, _∙_}
-use Prim.Native.Nat.{ℕ, zero, suc, _+_, _≤_, _<_}
+use mathlib.Core.Bool.{Bool, true, false, not, _&&_, and-false}
+use mathlib.Core.List.{[], _∷_, List·Memᴰ as Mem}
+use mathlib.Core.Logic.{inl, inr}
+use mathlib.Core.Path.{_≡_, refl, ap, _∙_}
+use Prim.Native.Nat.{ℕ, _+_, _≤_, _<_}
 use native.Mathlib.Decide.{decLe}
 use native.Mathlib.Omega.{arith}
 use borrow.Author.Tests.{lt-ltb, le-ltb, le-leb, lt-leb}
 use lib.Dec.{ltb, leb}
 use lib.ListN.{length}
-use Rattle.laws.specs.Bounded.{tabulate}
 use Rattle.laws.specs.Count.{one, count}
 use Rattle.laws.proofs.Cases.{test}
 use Rattle.laws.proofs.Bounded.{getD-tabulate}
 use Rattle.laws.proofs.Count.{count-append, count-map, count-same, count-sum, count-none}
-use Rattle.flow.specs.declared.Flow.{Flow}
 use Rattle.flow.specs.Plan.{Plan, flowAt, PlanOk}
 use Rattle.bucket.specs.Regulator.{fullBucket, afterCycle}
 use Rattle.bucket.proofs.Regulator.{Regulated, reset, cycle, recount}
@@ -41,6 +39,18 @@ none-within a n = elim (decLe a n) [ yes l ↦ rw (le-ltb n a l) (and-false (leb
 abbrev pub AllRegulated : Plan → Book → Type 0
 AllRegulated p b = (f : ℕ) → f < length (p .flows) → Regulated ((flowAt p f) .burst) ((flowAt p f) .period) (bucketAt b f) (b .clock) (span b f)
 
+-- no cycles, no entries
+pub span-none : (b : Book) (f a : ℕ) → span b f a a ≡ 0
+span-none b f a =
+    count-none (λ l. ofFlow f l && enteredIn a a (l .stage)) (b .lines)
+    (λ l m. rw (none-within a (entryOf (l .stage)), and-false (not (isWaiting (l .stage)))) (and-false (ofFlow f l)))
+
+-- an offer is no entry
+pub span-offer : (b : Book) (f g a t : ℕ) → span (offered b f) g a t ≡ span b g a t
+span-offer b f g a t =
+    count-append (λ l. ofFlow g l && enteredIn a t (l .stage)) (b .lines) (offeredLine b f ∷ [])
+    ∙ rw (and-false (ofFlow g (offeredLine b f))) (omega arith)
+
 -- rule 4
 pub bucket-step : (p : Plan) (b : Book) (f : ℕ) → f < length (p .flows)
     → bucketAt (stepped p b) f ≡ afterCycle ((flowAt p f) .burst) ((flowAt p f) .period) (enters p b f) (bucketAt b f)
@@ -56,10 +66,7 @@ module _ (p : Plan) (ok : PlanOk p) where
 
   module _ (b : Book) (held : AllRegulated p b) where
     pub regulated-offer : (f : ℕ) → AllRegulated p (offered b f)
-    regulated-offer f g l = recount _ _ (bucketAt b g) (b .clock) (span b g) (held g l) (span (offered b f) g) same
-      where
-        same : (a t : ℕ) → span (offered b f) g a t ≡ span b g a t
-        same a t = count-append (λ k. ofFlow g k && enteredIn a t (k .stage)) (b .lines) (offeredLine b f ∷ []) ∙ rw (and-false (ofFlow g (offeredLine b f))) (omega arith)
+    regulated-offer f g l = recount _ _ (bucketAt b g) (b .clock) (span b g) (held g l) (span (offered b f) g) (span-offer b f g)
 
     module _ (tr : Traced p b) (q : Queued b) where
       -- a line's entry in a span, after the step
@@ -116,7 +123,4 @@ module _ (p : Plan) (ok : PlanOk p) where
       regulated-step f l =
           rw (bucket-step p b f l)
           (cycle _ _ (bucketAt b f) (b .clock) (span b f) (held f l) (enters p b f) (λ e. entering-ready p b f e .token) (span (stepped p b) f)
-          (span-old f) (span-new f) (span-none f))
-        where
-          span-none : (f : ℕ) → span (stepped p b) f (b .clock + 1) (b .clock + 1) ≡ 0
-          span-none f = count-none (λ k. ofFlow f k && enteredIn (b .clock + 1) (b .clock + 1) (k .stage)) ((stepped p b) .lines) (λ k m. rw (none-within (b .clock + 1) (entryOf (k .stage)), and-false (not (isWaiting (k .stage)))) (and-false (ofFlow f k)))
+          (span-old f) (span-new f) (span-none (stepped p b) f (b .clock + 1)))

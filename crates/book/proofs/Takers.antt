@@ -1,18 +1,14 @@
 -- Who keeps a flow from entering: a packet that takes its port, or a line of its client that enters. It passes f in that step and
 -- had not passed before. Rests on Path, Entries and Meetings.
-use mathlib.Core.Bool.{Bool, true, false, cond, not, _&&_, false≢true}
-use mathlib.Core.List.{List, List·Memᴰ as Mem}
-use mathlib.Core.Logic.{_⊎_, inl, inr, _≢_}
+use mathlib.Core.Bool.{Bool, true, false, not, _&&_}
+use mathlib.Core.Logic.{inl, inr, _≢_}
 use mathlib.Core.Path.{_≡_, refl, sym, ap, _∙_}
-use Prim.Native.Nat.{ℕ, zero, suc, _+_, _-_, _*_, _≤_, _<_}
+use Prim.Native.Nat.{ℕ, suc, _+_, _-_, _*_, _≤_, _<_}
 use native.Mathlib.Nat.{mul-le-mul-right}
-use native.Mathlib.Decide.{ℕ-discrete}
 use native.Mathlib.Omega.{arith}
-use borrow.Author.Tests.{lt-ltb, le-ltb, le-leb, lt-leb, eq-eqb, ne-eqb, eqb-true, not-true, not-false}
-use lib.Dec.{ltb, leb, eqb}
-use Rattle.laws.specs.Count.{one, count, any}
-use Rattle.laws.proofs.Cases.{test, and-true}
-use Rattle.laws.proofs.Count.{any-true, count-any}
+use borrow.Author.Tests.{le-leb, eq-eqb, ne-eqb}
+use lib.Dec.{ltb}
+use Rattle.laws.proofs.Cases.{test}
 use Rattle.torus.specs.Ring.{offset, lap}
 use Rattle.torus.proofs.Ring.{offset-same}
 use Rattle.flow.specs.declared.Flow.{Flow}
@@ -21,16 +17,15 @@ use Rattle.flow.specs.declared.Port.the-variants.{East, South}
 use Rattle.flow.specs.Offsets.{ΔX, ΔY, portOf, sameClient}
 use Rattle.flow.specs.Plan.{Plan, flowAt, FlowOk}
 use Rattle.window.specs.Conflict.{rowsTo, columnsTo}
-use Rattle.book.specs.Line.{Place, W, N, columnOf, rowOf, samePlace, Stage, waiting, placed, left, Line, isWaiting, standsIn, entryOf}
-use Rattle.book.specs.Book.{Book, bucketAt, ofFlow, waitsFor}
-use Rattle.book.specs.Cycle.{full, turns, westTurns, output, isOpen, ready, enters, lowest, sent, moveStage}
+use Rattle.book.specs.Line.{Place, W, N, columnOf, rowOf, Stage, waiting, placed, left, Line, isWaiting, entryOf}
+use Rattle.book.specs.Book.{Book}
+use Rattle.book.specs.Cycle.{westTurns, output, enters, lowest, sent}
 use Rattle.book.specs.InPlace.{rowsDone}
-use Rattle.book.proofs.Path.{Sound, InNorth, InFirst, InLater, GoesSouth, progress, progress-row, placed-south, along-first, along-later, step-placed, step-entry}
+use Rattle.book.proofs.Path.{Sound, progress, progress-row, placed-south, along-first, along-later, step-placed}
 use Rattle.book.proofs.Path
-use Rattle.book.proofs.Entries.{Ready, client-parts, client-same, parts-ready, some-enters}
-use Rattle.book.proofs.Moves.{goes, sent-waits, sent-entry}
-use Rattle.book.proofs.Queue.{Queued, goes-count}
-use Rattle.book.proofs.Meetings.{Meeting, never, meets, meeting, passedBy, passed-yes, passed-no}
+use Rattle.book.proofs.Entries.{client-parts}
+use Rattle.book.proofs.Moves.{sent-waits, sent-entry}
+use Rattle.book.proofs.Meetings.{meets, meeting, passedBy, passed-yes, passed-no}
 
 -- a packet in a register of f's router takes f's port: E if it is in W, S if it goes there
 abbrev TakesPort : Plan → Book → Flow → Place → Port → Type 0
@@ -55,7 +50,7 @@ pub record Passes (p : Plan) (f g : Flow) (s c : ℕ) (old new : Stage) : Type 0
   pub before : passedAt p f g s c old ≡ false
   pub after : passedAt p f g s (c + 1) new ≡ true
 
-module _ (p : Plan) (f g : Flow) (okf : FlowOk (p .sx) (p .sy) f) (ok : FlowOk (p .sx) (p .sy) g) where
+module _ (p : Plan) (f g : Flow) (ok : FlowOk (p .sx) (p .sy) g) where
   abbrev r : ℕ
   r = rowsTo (p .sy) f g
 

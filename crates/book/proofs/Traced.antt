@@ -1,8 +1,8 @@
 -- Every line of the book is of a flow of the plan and is where it can be. Rests on Path.
-use mathlib.Core.Bool.{true, false, cond, _&&_, false≢true}
+use mathlib.Core.Bool.{false, _&&_}
 use mathlib.Core.List.{List·Memᴰ as Mem}
-use mathlib.Core.Logic.{_⊎_, inl, inr}
-use mathlib.Core.Path.{_≡_, refl, sym, _∙_}
+use mathlib.Core.Logic.{inl, inr}
+use mathlib.Core.Path.{_≡_, refl}
 use Prim.Native.Nat.{ℕ, _+_, _≤_, _<_}
 use native.Mathlib.Nat.{add-zero, le-refl}
 use native.Mathlib.Omega.{arith}
@@ -14,8 +14,8 @@ use Rattle.flow.specs.declared.Flow.{Flow}
 use Rattle.flow.specs.Plan.{Plan, flowAt, FlowOk, PlanOk}
 use Rattle.book.specs.Line.{Stage, waiting, placed, left, Line, isWaiting, entryOf}
 use Rattle.book.specs.Book.{Book, offered}
-use Rattle.book.specs.Cycle.{enters, lowest, deflected, moveStage, move, stepped}
-use Rattle.book.proofs.Path.{Sound, progress, step-placed, step-entry, entered-progress, entered-before}
+use Rattle.book.specs.Cycle.{enters, lowest, deflected, moveStage, stepped}
+use Rattle.book.proofs.Path.{Sound, progress, step-placed, step-entry, entered-before}
 
 pub record Traced (p : Plan) (b : Book) : Type 0 where
   pub known : (l : Line) → Mem l (b .lines) → l .flow < length (p .flows)

@@ -13,7 +13,7 @@ use Rattle.flow.specs.declared.Port.the-variants.{East, South}
 use Rattle.flow.specs.Offsets.{portOf, sameClient}
 use Rattle.flow.specs.Plan.{Plan, flowAt}
 use Rattle.bucket.specs.Regulator.{afterCycle}
-use Rattle.book.specs.Line.{Place, W, N, columnOf, rowOf, Stage, waiting, placed, left, Line, standsIn, leftAt, isWaiting, entryOf, exitOf}
+use Rattle.book.specs.Line.{Place, W, N, columnOf, rowOf, Stage, waiting, placed, left, Line, standsIn, leftAt, entryOf, exitOf}
 use Rattle.book.specs.Book.{Book, bucketAt, waitsFor}
 
 abbrev pub samePort : Port → Port → Bool

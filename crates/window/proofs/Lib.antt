@@ -4,4 +4,6 @@ pub mod Least
 pub mod Interference
 pub mod Window
 pub mod Rivals
+pub mod Gathered
+pub mod Flight
 pub mod Cases

@@ -9,7 +9,7 @@ use Rattle.flow.specs.Plan.{Plan, mostFlows, mostBurst}
 use Rattle.bucket.specs.Curve.{curve}
 use Rattle.window.specs.declared.Conflict.{Conflict}
 use Rattle.window.specs.declared.Conflict.the-variants.{Free, Spread}
-use Rattle.window.specs.Window.{interference}
+use Rattle.window.specs.Window.{shareOf}
 
 -- what rival number k of the words l adds to I(t)
 unfoldable pub rivalShare : List ℕ → ℕ → ℕ → ℕ
@@ -35,10 +35,11 @@ pub record Rivals (l : List ℕ) (n : ℕ) : Type 0 where
   pub long : 3 * mostFlows ≤ length l
   pub rival-ok : (k : ℕ) → k < n → RivalOk l k
 
--- the words l hold the n rivals of flow number f: together they make I(t)
-pub record RivalsOf (p : Plan) (f : ℕ) (l : List ℕ) (n : ℕ) : Type 0 where
+-- the words l hold the n rivals of flow number f among the first m flows: together they add to I(t) what those flows do
+pub record RivalsAmong (p : Plan) (f m : ℕ) (l : List ℕ) (n : ℕ) : Type 0 where
   pub words : Rivals l n
-  pub sum : (t : ℕ) → demandOf l n t ≡ interference p f t
+  pub few : n ≤ m
+  pub sum : (t : ℕ) → demandOf l n t ≡ sumBelow m (shareOf p f t)
 
 -- words and the number of rivals in them
 pub record Kept : Type 0 where

@@ -1,6 +1,12 @@
 // Conflicts, windows and flight bounds. Rests on flow and bucket.
 ghost use mathlib.Core.Path.{_≡_};
+ghost use Prim.Native.Nat.{_+_, _*_, _<_, _≤_};
+ghost use lib.ListN.{length};
 ghost use Rattle.window.specs.Conflict.{Pair, conflict, conflictEast, conflictSouth};
+ghost use Rattle.window.specs.Window.{mostWindow, leastFrom};
+ghost use Rattle.flow.specs.Plan.{FlowOk, mostSize};
+ghost use Rattle.window.specs.Flight.{flightBound, mostFlight};
+ghost use Rattle.window.specs.Rivals.{rivalShare, demandOf, Rivals, RivalOk, kept, keptWith};
 use flow::Flow;
 use flow::Port;
 
@@ -66,4 +72,70 @@ pub fn conflict_of(sx: u32, sy: u32, f: Flow, g: Flow) -> Conflict
         Port::East => conflict_east(sx, sy, f, g),
         Port::South => conflict_south(sx, sy, f, g),
     }
+}
+
+// What rival number k adds to I(t).
+fn rival_share(rivals: &[u32], k: usize, t: u32) -> u32
+    requires { ⌜ (3 * k + 2 < length (now rivals)) × ((RivalOk (now rivals) k) × ((1 ≤ t) × (t ≤ mostWindow))) ⌝ }
+    ensures { λ r. ⌜ r ≡ rivalShare (now (rivals .entry)) t k ⌝ }
+{
+    let at = 3 * k;
+    bucket::most_entries(rivals[at], rivals[at + 1], t - 1 + rivals[at + 2])
+}
+
+// What the first n rivals add to I(t).
+fn demand(rivals: &[u32], n: usize, t: u32) -> u32
+    requires { ⌜ (Rivals (now rivals) n) × ((1 ≤ t) × (t ≤ mostWindow)) ⌝ }
+    ensures { λ r. ⌜ r ≡ demandOf (now (rivals .entry)) n t ⌝ }
+{
+    let mut sum = 0u32;
+    for k in 0..n {
+        sum += rival_share(rivals, k, t);
+    }
+    sum
+}
+
+// The least window that the n rivals leave. Where they leave none at t, none is left up to their demand.
+pub fn least_window(rivals: &[u32], n: usize) -> Found
+    requires { ⌜ Rivals (now rivals) n ⌝ }
+    ensures { λ r. ⌜ r ≡ leastFrom (demandOf (now (rivals .entry)) n) mostWindow 1 ⌝ }
+{
+    let mut t = 1u32;
+    loop {
+        if 65535 < t {
+            break Found::Nothing;
+        }
+        let d = demand(rivals, n, t);
+        if d < t {
+            break Found::At(t);
+        }
+        t = d + 1;
+    }
+}
+
+// Flow g with its conflict, after n rivals: three words more if it is one.
+pub fn keep_rival(rivals: &mut [u32], n: usize, g: Flow, c: Conflict) -> usize
+    requires { ⌜ 3 * n + 2 < length (now rivals) ⌝ }
+    ensures { λ r. ⌜ kept r (now (rivals .exit)) ≡ keptWith (now (rivals .entry)) n g c ⌝ }
+{
+    match c {
+        Conflict::Free => n,
+        Conflict::Spread(j) => {
+            let at = 3 * n;
+            rivals[at] = g.burst;
+            rivals[at + 1] = g.period;
+            rivals[at + 2] = j;
+            n + 1
+        }
+    }
+}
+
+// The most cycles of a flow's packet from entry to exit, with 2.
+pub fn flight_bound(sx: u32, sy: u32, f: Flow) -> u32
+    requires { ⌜ (FlowOk sx sy f) × ((sx ≤ mostSize) × (sy ≤ mostSize)) ⌝ }
+    ensures { λ r. ⌜ (r ≡ flightBound sx sy f) × (r ≤ mostFlight) ⌝ }
+{
+    let dx = f.offset_x(sx);
+    let dy = f.offset_y(sy);
+    dx + dy + dy * sx + 2
 }

@@ -1,0 +1,3 @@
+-- The laws of the calls on a plan file.
+pub mod Opened
+pub mod Asked
