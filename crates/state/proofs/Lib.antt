@@ -5,4 +5,3 @@ pub mod View
 pub mod Forms
 pub mod Again
 pub mod Over
-pub mod InPlace

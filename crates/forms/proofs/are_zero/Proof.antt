@@ -8,8 +8,8 @@ use lib.Dec.{eqb}
 use lib.ListN.{getD}
 use Rattle.laws.specs.Bounded.{allBelow}
 use Rattle.laws.proofs.Bounded.{all-none, all-more, all-fails}
-use Rattle.state.proofs.are_zero.Statement.{statement}
-use Rattle.state.proofs.are_zero.Tie as tie
+use Rattle.forms.proofs.are_zero.Statement.{statement}
+use Rattle.forms.proofs.are_zero.Tie as tie
 
 abbrev Inv-loop : tie.InvT-loop
 Inv-loop w at count k₀ k = (k ≤ count) × (allBelow k (λ k. eqb (getD w (at + k) 0) 0) ≡ true)

@@ -1,10 +1,10 @@
 -- `numbers_fit`: the definition's own tests, in its order.
 use borrow.Author.Tests.{le-leb, lt-leb}
 use Rattle.laws.proofs.Cases.{told-not, told-not′}
 use Rattle.state.specs.Forms.{numbersFit}
 use borrow.Author.Needs.{needs}
-use Rattle.state.proofs.numbers_fit.Statement.{statement}
-use Rattle.state.proofs.numbers_fit.Tie as tie
+use Rattle.forms.proofs.numbers_fit.Statement.{statement}
+use Rattle.forms.proofs.numbers_fit.Tie as tie
 
 returns : tie.Need-returns
 unfolding numbersFit

@@ -6,9 +6,9 @@ use native.Mathlib.Omega.{arith}
 use Rattle.laws.specs.Bounded.{allBelow}
 use Rattle.laws.proofs.Cases.{told-not, told-not′}
 use Rattle.laws.proofs.Bounded.{all-none, all-more, all-fails}
 use Rattle.state.specs.Forms.{flowFits}
-use Rattle.state.proofs.flows_fit.Statement.{statement}
-use Rattle.state.proofs.flows_fit.Tie as tie
+use Rattle.forms.proofs.flows_fit.Statement.{statement}
+use Rattle.forms.proofs.flows_fit.Tie as tie
 
 abbrev Inv-loop : tie.InvT-loop
 Inv-loop w count f₀ f = (f ≤ count) × (allBelow f (flowFits w) ≡ true)

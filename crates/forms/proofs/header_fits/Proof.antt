@@ -1,10 +1,10 @@
 -- `header_fits`: the definition's own tests, in its order.
 use borrow.Author.Tests.{le-leb, lt-leb}
 use Rattle.laws.proofs.Cases.{told-not, told-not′}
 use Rattle.state.specs.Forms.{headerFits}
 use borrow.Author.Needs.{needs}
-use Rattle.state.proofs.header_fits.Statement.{statement}
-use Rattle.state.proofs.header_fits.Tie as tie
+use Rattle.forms.proofs.header_fits.Statement.{statement}
+use Rattle.forms.proofs.header_fits.Tie as tie
 
 returns : tie.Need-returns
 unfolding headerFits

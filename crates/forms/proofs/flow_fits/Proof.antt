@@ -1,9 +1,9 @@
 -- `flow_fits`: the definition's own tests, in its order.
 use Rattle.laws.proofs.Cases.{told-not, told-not′}
 use Rattle.state.specs.Forms.{flowFits}
 use borrow.Author.Needs.{needs}
-use Rattle.state.proofs.flow_fits.Statement.{statement}
-use Rattle.state.proofs.flow_fits.Tie as tie
+use Rattle.forms.proofs.flow_fits.Statement.{statement}
+use Rattle.forms.proofs.flow_fits.Tie as tie
 
 returns : tie.Need-returns
 unfolding flowFits
