@@ -1,4 +1,4 @@
-// State memory: its words, when they form a state, reset, and writing a plan back. Rests on plan, bucket and book.
+// State memory: its words, read and written by value. Rests on flow and bucket.
 use bucket::Bucket;
 use flow::Flow;
 ghost use mathlib.Core.Path.{_≡_};
@@ -19,6 +19,12 @@ pub enum Register {
         entry: u32,
         deflections: u32,
     },
+}
+
+// The input of a router that a link register feeds.
+pub enum Input {
+    West,
+    North,
 }
 
 // The link registers of a router.
