@@ -8,3 +8,4 @@ pub mod Outputs
 pub mod Step
 pub mod Delivery
 pub mod Offer
+pub mod Forms
