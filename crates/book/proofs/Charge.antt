@@ -6,22 +6,23 @@ use mathlib.Core.Logic.{_⊎_, inl, inr, _≢_}
 use mathlib.Core.Path.{_≡_, refl, sym, ap, _∙_}
 use Prim.Native.Nat.{ℕ, suc, _+_, _≤_, _<_}
 use native.Mathlib.Omega.{arith}
-use borrow.Author.Tests.{ne-eqb, eqb-true, not-true, not-false}
+use borrow.Author.Tests.{ne-eqb, eqb-true, not-false}
 use lib.Dec.{ltb, eqb}
 use Rattle.laws.specs.Count.{count, any}
 use Rattle.laws.proofs.Cases.{test, and-true}
 use Rattle.laws.proofs.Count.{any-true, count-any, count-map, count-mono, count-more}
 use Rattle.flow.specs.declared.Flow.{Flow}
 use Rattle.flow.specs.Offsets.{ΔX, portOf, sameClient}
-use Rattle.flow.specs.Plan.{Plan, flowAt, FlowOk, PlanOk}
+use Rattle.flow.specs.Plan.{Plan, flowAt, FlowOk}
 use Rattle.book.specs.Line.{W, N, Stage, waiting, placed, left, Line, isWaiting, standsIn, entryOf}
 use Rattle.book.specs.Book.{Book, bucketAt, ofFlow, waitsFor}
 use Rattle.book.specs.Cycle.{full, turns, westTurns, isOpen, enters, lowest, moveStage, move, stepped}
 use Rattle.book.proofs.Path.{Sound, step-entry}
 use Rattle.book.proofs.Entries.{client-same, parts-ready, some-enters}
-use Rattle.book.proofs.Moves.{goes, moved-waits, moved-entry, sent-waits, sent-entry}
-use Rattle.book.proofs.Queue.{Queued, goes-count}
-use Rattle.book.proofs.Traced.{Traced, line-ok, moved-progress}
+use Rattle.book.proofs.Moves.{goes, sent-waits, sent-entry, Turn, keeps, stays, comes, turn}
+use Rattle.book.proofs.Queue.{goes-count}
+use Rattle.book.proofs.Traced.{line-ok, moved-progress}
+use Rattle.book.proofs.Spans.{Lawful}
 use Rattle.book.proofs.Meetings.{meeting, passed-yes, passed-stays}
 use Rattle.book.proofs.Takers.{Takes, Passes, passedAt, placed-passes, away}
 
@@ -33,9 +34,13 @@ turns-some : (p : Plan) (b : Book) (x y : ℕ) → westTurns p b x y ≡ true �
 unfolding westTurns
 turns-some p b x y e = e
 
-module _ (p : Plan) (ok : PlanOk p) (b : Book) (f : ℕ) (tr : Traced p b) (q : Queued b) where
+module _ (p : Plan) (b : Book) (law : Lawful p b) (f : ℕ) where
   abbrev φ : Flow
   φ = flowAt p f
+
+  -- a line that keeps f from entering
+  abbrev Blocker : Type 0
+  Blocker = (z : Line) × Mem z (b .lines) × Takes p b f z (z .stage)
 
   -- who takes the port of f passes it in this step
   takes-passes : (s : ℕ) → s ≤ b .clock → (z : Line) → FlowOk (p .sx) (p .sy) (flowAt p (z .flow)) → (D : ℕ) (st : Stage)
@@ -81,27 +86,27 @@ module _ (p : Plan) (ok : PlanOk p) (b : Book) (f : ℕ) (tr : Traced p b) (q : 
   west-takes z (left e t x y) h port = absurd (false≢true h)
 
   north-takes : (z : Line) (st : Stage) → standsIn (N (φ .xs) (φ .ys)) st ≡ true → ltb 0 (ΔX (p .sx) φ) ≡ false → westTurns p b (φ .xs) (φ .ys) ≡ false → Takes p b f z st
-  north-takes z waiting h south stays = absurd (false≢true h)
-  north-takes z (placed e (W x y)) h south stays = absurd (false≢true h)
-  north-takes z (placed e (N x y)) h south stays =
+  north-takes z waiting h south clear = absurd (false≢true h)
+  north-takes z (placed e (W x y)) h south clear = absurd (false≢true h)
+  north-takes z (placed e (N x y)) h south clear =
       let k = and-true (eqb (φ .xs) x) (eqb (φ .ys) y) h in
       let xe = sym (eqb-true (φ .xs) x (k .0)) in
       let ye = sym (eqb-true (φ .ys) y (k .1)) in
-      (xe, ye, rw (south, xe, ye) stays)
-  north-takes z (left e t x y) h south stays = absurd (false≢true h)
+      (xe, ye, rw (south, xe, ye) clear)
+  north-takes z (left e t x y) h south clear = absurd (false≢true h)
 
   -- a closed port is taken
-  closed-takes : isOpen p b (φ .xs) (φ .ys) (portOf (p .sx) φ) ≡ false → (z : Line) × Mem z (b .lines) × Takes p b f z (z .stage)
+  closed-takes : isOpen p b (φ .xs) (φ .ys) (portOf (p .sx) φ) ≡ false → Blocker
   closed-takes shut =
       elim (test (ltb 0 (ΔX (p .sx) φ))) [
         | inl east ↦
             let z = any-true (λ l. standsIn (W (φ .xs) (φ .ys)) (l .stage)) (b .lines) (not-false _ (rw east at shut)) in
             (z .0, z .1, west-takes (z .0) (z .0 .stage) (z .2) (inl east))
         | inr south ↦ elim (test (westTurns p b (φ .xs) (φ .ys))) [
-          | inl turn ↦ turning south turn
-          | inr stays ↦
-              let z = any-true (λ l. standsIn (N (φ .xs) (φ .ys)) (l .stage)) (b .lines) (held (full b (N (φ .xs) (φ .ys))) (rw (south, stays) at shut)) in
-              (z .0, z .1, north-takes (z .0) (z .0 .stage) (z .2) south stays)
+          | inl down ↦ turning south down
+          | inr clear ↦
+              let z = any-true (λ l. standsIn (N (φ .xs) (φ .ys)) (l .stage)) (b .lines) (held (full b (N (φ .xs) (φ .ys))) (rw (south, clear) at shut)) in
+              (z .0, z .1, north-takes (z .0) (z .0 .stage) (z .2) south clear)
         ]
       ]
     where
@@ -109,14 +114,14 @@ module _ (p : Plan) (ok : PlanOk p) (b : Book) (f : ℕ) (tr : Traced p b) (q : 
       held true e = refl
       held false e = sym e
 
-      turning : ltb 0 (ΔX (p .sx) φ) ≡ false → westTurns p b (φ .xs) (φ .ys) ≡ true → (z : Line) × Mem z (b .lines) × Takes p b f z (z .stage)
-      turning south turn =
-          let z = any-true (turns p (φ .xs) (φ .ys)) (b .lines) (turns-some p b (φ .xs) (φ .ys) turn) in
+      turning : ltb 0 (ΔX (p .sx) φ) ≡ false → westTurns p b (φ .xs) (φ .ys) ≡ true → Blocker
+      turning south down =
+          let z = any-true (turns p (φ .xs) (φ .ys)) (b .lines) (turns-some p b (φ .xs) (φ .ys) down) in
           let k = and-true (standsIn (W (φ .xs) (φ .ys)) (z .0 .stage)) (eqb (φ .xs) ((flowAt p (z .0 .flow)) .xd)) (z .2) in
           (z .0, z .1, west-takes (z .0) (z .0 .stage) (k .0) (inr (south, eqb-true _ _ (k .1))))
 
   -- some line takes the port, or enters before f
-  blocked : any (waitsFor f) (b .lines) ≡ true → 1 ≤ (bucketAt b f) .tokens → enters p b f ≡ false → (z : Line) × Mem z (b .lines) × Takes p b f z (z .stage)
+  blocked : any (waitsFor f) (b .lines) ≡ true → 1 ≤ (bucketAt b f) .tokens → enters p b f ≡ false → Blocker
   blocked w token out =
       elim (test (isOpen p b (φ .xs) (φ .ys) (portOf (p .sx) φ))) [
         | inr shut ↦ closed-takes shut
@@ -126,37 +131,39 @@ module _ (p : Plan) (ok : PlanOk p) (b : Book) (f : ℕ) (tr : Traced p b) (q : 
         ]
       ]
     where
-      lower : (g : ℕ) → g < f → sameClient φ (flowAt p g) ≡ true → enters p b g ≡ true → (z : Line) × Mem z (b .lines) × Takes p b f z (z .stage)
+      lower : (g : ℕ) → g < f → sameClient φ (flowAt p g) ≡ true → enters p b g ≡ true → Blocker
       lower g below same en =
-          let z = any-true (λ l. ofFlow g l && goes p b l) (b .lines) (count-any (λ l. ofFlow g l && goes p b l) (b .lines) (rw (goes-count b q p g, en) (omega arith))) in
+          let z = any-true (λ l. ofFlow g l && goes p b l) (b .lines) (count-any (λ l. ofFlow g l && goes p b l) (b .lines) (rw (goes-count b (law .queued) p g, en) (omega arith))) in
           let k = and-true (ofFlow g (z .0)) (goes p b (z .0)) (z .2) in
           let own = eqb-true (z .0 .flow) g (k .0) in
           (z .0, z .1, goes-takes (z .0) (z .0 .stage) (k .1) (ap (λ (h : ℕ). sameClient φ (flowAt p h)) own ∙ same) (omega arith))
 
   -- who has passed stays so
-  passed-step : (s : ℕ) (l : Line) → Mem l (b .lines) → passed p f s (b .clock) l ≡ true → passed p f s (b .clock + 1) (move p b l) ≡ true
-  passed-step s l m e =
-      let ψ : Flow = flowAt p (l .flow) in
-      let k = and-true (not (eqb (l .flow) f)) (passedAt p φ ψ s (b .clock) (l .stage)) e in
-      let h = and-true (not (isWaiting (l .stage))) _ (k .1) in
-      let w = not-true (isWaiting (l .stage)) (h .0) in
-      rw (k .0, moved-waits p b l (l .stage), moved-entry p b l (l .stage) w, w)
-      (passed-stays (meeting (p .sx) (p .sy) φ ψ) s (b .clock) (b .clock + 1) (entryOf (l .stage)) _ _ (omega arith) (moved-progress p b l (line-ok p ok b tr l m) (l .D) (l .stage) (tr .sound l m)) (h .1))
+  passed-step : (s : ℕ) (l : Line) → Mem l (b .lines) → Turn p b l → passed p f s (b .clock) l ≡ true → passed p f s (b .clock + 1) (move p b l) ≡ true
+  passed-step s l m t h = step t (and-true (not (eqb (l .flow) f)) (passedAt p φ (flowAt p (l .flow)) s (b .clock) (l .stage)) h)
+    where
+      step : Turn p b l → (not (eqb (l .flow) f) ≡ true) × (passedAt p φ (flowAt p (l .flow)) s (b .clock) (l .stage) ≡ true) → passed p f s (b .clock + 1) (move p b l) ≡ true
+      step (keeps w w′ e g) k =
+          rw (k .0, w′, e)
+          (passed-stays (meeting (p .sx) (p .sy) φ (flowAt p (l .flow))) s (b .clock) (b .clock + 1) (entryOf (l .stage)) _ _ (omega arith)
+          (moved-progress p b l (line-ok p (law .plan) b (law .traced) l m) (l .D) (l .stage) (law .traced .sound l m)) (rw w at (k .1)))
+      step (stays w w′ g) k = absurd (false≢true (rw w at (k .1)))
+      step (comes w w′ e g) k = absurd (false≢true (rw w at (k .1)))
 
   pub passed-more : (s : ℕ) → count (passed p f s (b .clock)) (b .lines) ≤ count (passed p f s (b .clock + 1)) ((stepped p b) .lines)
   passed-more s =
       rw (count-map (passed p f s (b .clock + 1)) (move p b) (b .lines))
-      (count-mono (passed p f s (b .clock)) (λ l. passed p f s (b .clock + 1) (move p b l)) (b .lines) (passed-step s))
+      (count-mono (passed p f s (b .clock)) (λ l. passed p f s (b .clock + 1) (move p b l)) (b .lines) (λ l m. passed-step s l m (turn p b l)))
 
   -- the charging lemma: f waits with a token and doesn't enter
   pub charge : (s : ℕ) → s ≤ b .clock → any (waitsFor f) (b .lines) ≡ true → 1 ≤ (bucketAt b f) .tokens → enters p b f ≡ false
-      → suc (count (passed p f s (b .clock)) (b .lines)) ≤ count (passed p f s ((stepped p b) .clock)) ((stepped p b) .lines)
+      → suc (count (passed p f s (b .clock)) (b .lines)) ≤ count (passed p f s (b .clock + 1)) ((stepped p b) .lines)
   charge s now w token out =
       let z = blocked w token out in
-      let okz = line-ok p ok b tr (z .0) (z .1) in
-      let h = tr .sound (z .0) (z .1) in
+      let okz = line-ok p (law .plan) b (law .traced) (z .0) (z .1) in
+      let h = law .traced .sound (z .0) (z .1) in
       let other = ne-eqb (z .0 .flow) f (takes-other (z .0) okz (z .0 .D) (z .0 .stage) h (z .2)) in
       let pass = takes-passes s now (z .0) okz (z .0 .D) (z .0 .stage) h (z .2) in
       rw (count-map (passed p f s (b .clock + 1)) (move p b) (b .lines))
-      (count-more (passed p f s (b .clock)) (λ l. passed p f s (b .clock + 1) (move p b l)) (b .lines) (passed-step s) (z .0) (z .1)
+      (count-more (passed p f s (b .clock)) (λ l. passed p f s (b .clock + 1) (move p b l)) (b .lines) (λ l m. passed-step s l m (turn p b l)) (z .0) (z .1)
       (rw other (pass .before)) (rw other (pass .after)))

@@ -22,7 +22,8 @@ use Rattle.book.specs.Line.{Stage, waiting, placed, left, Line, isLeft, 
 use Rattle.book.specs.Book.{Book}
 use Rattle.book.specs.Cycle.{enters, lowest, sent, deflected, moveStage, move, stepped, Delivery, deliveryOf, exitsOf, deliveries}
 use Rattle.book.proofs.Path.{Sound}
-use Rattle.book.proofs.Traced.{Traced, line-ok, traced-step}
+use Rattle.book.proofs.Traced.{line-ok, traced-step}
+use Rattle.book.proofs.Spans.{Lawful}
 
 -- the exit is in cycle c, and its router
 abbrev leftIn : ℕ → Stage → Bool
@@ -77,49 +78,49 @@ module _ (p : Plan) (f : Flow) (c e x y : ℕ) where
 abbrev pub gone : (Delivery → Bool) → Line → Bool
 gone r l = isLeft (l .stage) && r (deliveryOf l)
 
-module _ (p : Plan) (ok : PlanOk p) where
-  left-on : (f : Flow) → FlowOk (p .sx) (p .sy) f → (c D : ℕ) (s : Stage) → Sound p f c D s → (columnLeft s < p .sx) × (rowLeft s < p .sy)
-  left-on f k c D waiting h = (ok .sx-least, ok .sy-least)
-  left-on f k c D (placed e at) h = (ok .sx-least, ok .sy-least)
-  left-on f k c D (left e t x y) h = (rw (h .column) (k .xd-on), rw (h .row) (k .yd-on))
+-- its router is on the torus
+left-on : (p : Plan) → PlanOk p → (f : Flow) → FlowOk (p .sx) (p .sy) f → (c D : ℕ) (s : Stage) → Sound p f c D s → (columnLeft s < p .sx) × (rowLeft s < p .sy)
+left-on p ok f k c D waiting h = (ok .sx-least, ok .sy-least)
+left-on p ok f k c D (placed e at) h = (ok .sx-least, ok .sy-least)
+left-on p ok f k c D (left e t x y) h = (rw (h .column) (k .xd-on), rw (h .row) (k .yd-on))
 
-  module _ (b : Book) (tr : Traced p b) (r : Delivery → Bool) where
-    abbrev c : ℕ
-    c = b .clock
+module _ (p : Plan) (b : Book) (law : Lawful p b) (r : Delivery → Bool) where
+  abbrev c : ℕ
+  c = b .clock
 
-    -- a line that has left stays as it is; one that leaves does so in this cycle
-    leaving : (l : Line) (D : ℕ) (s : Stage) → Sound p (flowAt p (l .flow)) c D s
-        → let new : Stage = moveStage p b l s in
-        let words : ℕ → Stage → Delivery = λ d u. record { flow = l .flow; serial = l .serial; entry = entryOf u; exit = exitOf u; D = d } in
-        one (isLeft new && r (words (D + one (deflected p b s)) new)) ≡ one (isLeft s && r (words D s)) + one (leftIn c new && r (words (D + one (deflected p b s)) new))
-    leaving l D waiting h =
-        elim (test (enters p b (l .flow) && lowest b l)) [ inl go ↦ rw (go, sent-left) (omega arith) | inr go ↦ rw go ]
-    leaving l D (placed e at) h = rw sent-left (omega arith)
-    leaving l D (left e t x y) h = rw (add-zero, ne-eqb t c (omega (arith, h .past))) (omega arith)
+  -- a line that has left stays as it is; one that leaves does so in this cycle
+  leaving : (l : Line) (D : ℕ) (s : Stage) → Sound p (flowAt p (l .flow)) c D s
+      → let new : Stage = moveStage p b l s in
+      let words : ℕ → Stage → Delivery = λ d u. record { flow = l .flow; serial = l .serial; entry = entryOf u; exit = exitOf u; D = d } in
+      one (isLeft new && r (words (D + one (deflected p b s)) new)) ≡ one (isLeft s && r (words D s)) + one (leftIn c new && r (words (D + one (deflected p b s)) new))
+  leaving l D waiting h =
+      elim (test (enters p b (l .flow) && lowest b l)) [ inl go ↦ rw (go, sent-left) (omega arith) | inr go ↦ rw go ]
+  leaving l D (placed e at) h = rw sent-left (omega arith)
+  leaving l D (left e t x y) h = rw (add-zero, ne-eqb t c (omega (arith, h .past))) (omega arith)
 
-    pub step-delivered : count (gone r) ((stepped p b) .lines) ≡ count (gone r) (b .lines) + count r (deliveries p b)
-    unfolding deliveries
-    step-delivered =
-        omega (
-          arith,
-          told,
-          count-map (gone r) (move p b) (b .lines),
-          count-sum (λ l. gone r (move p b l)) (gone r) now (b .lines) (λ l m. leaving l (l .D) (l .stage) (tr .sound l m)),
-        )
-      where
-        after : List Line
-        after = (stepped p b) .lines
+  pub step-delivered : count (gone r) ((stepped p b) .lines) ≡ count (gone r) (b .lines) + count r (deliveries p b)
+  unfolding deliveries
+  step-delivered =
+      omega (
+        arith,
+        told,
+        count-map (gone r) (move p b) (b .lines),
+        count-sum (λ l. gone r (move p b l)) (gone r) now (b .lines) (λ l m. leaving l (l .D) (l .stage) (law .traced .sound l m)),
+      )
+    where
+      after : List Line
+      after = (stepped p b) .lines
 
-        now : Line → Bool
-        now l = leftIn c ((move p b l) .stage) && r (deliveryOf (move p b l))
+      now : Line → Bool
+      now l = leftIn c ((move p b l) .stage) && r (deliveryOf (move p b l))
 
-        on : (l : Line) → Mem l after → (columnLeft (l .stage) < p .sx) × (rowLeft (l .stage) < p .sy)
-        on l m =
-            let tr′ = traced-step p ok b tr in
-            left-on (flowAt p (l .flow)) (line-ok p ok (stepped p b) tr′ l m) (c + 1) (l .D) (l .stage) (tr′ .sound l m)
+      on : (l : Line) → Mem l after → (columnLeft (l .stage) < p .sx) × (rowLeft (l .stage) < p .sy)
+      on l m =
+          let tr = traced-step p (law .plan) b (law .traced) in
+          left-on p (law .plan) (flowAt p (l .flow)) (line-ok p (law .plan) (stepped p b) tr l m) (c + 1) (l .D) (l .stage) (tr .sound l m)
 
-        told : count r (map deliveryOf (exitsOf p c after)) ≡ count now (b .lines)
-        told =
-            count-map r deliveryOf (exitsOf p c after)
-            ∙ exits-count p c after on (λ l. r (deliveryOf l))
-            ∙ count-map (λ l. leftIn c (l .stage) && r (deliveryOf l)) (move p b) (b .lines)
+      told : count r (map deliveryOf (exitsOf p c after)) ≡ count now (b .lines)
+      told =
+          count-map r deliveryOf (exitsOf p c after)
+          ∙ exits-count p c after on (λ l. r (deliveryOf l))
+          ∙ count-map (λ l. leftIn c (l .stage) && r (deliveryOf l)) (move p b) (b .lines)

@@ -15,16 +15,14 @@ use Rattle.laws.specs.Count.{one, count, any}
 use Rattle.laws.proofs.Cases.{test, and-true}
 use Rattle.laws.proofs.Count.{count-none, count-mono, count-split, count-append}
 use Rattle.laws.proofs.Sum.{sum-mono}
-use Rattle.flow.specs.Plan.{Plan, flowAt, PlanOk}
+use Rattle.flow.specs.Plan.{Plan, flowAt}
 use Rattle.bucket.proofs.Regulator.{Regulated, enters-at-most}
 use Rattle.window.specs.Window.{share, shareOf, interference}
 use Rattle.book.specs.Line.{Line, isWaiting, entryOf}
 use Rattle.book.specs.Book.{Book, bucketAt, ofFlow, waitsFor, offered, offeredLine}
 use Rattle.book.specs.Cycle.{enters, stepped}
 use Rattle.book.proofs.Path.{progress}
-use Rattle.book.proofs.Queue.{Queued}
-use Rattle.book.proofs.Traced.{Traced}
-use Rattle.book.proofs.Spans.{span, enteredIn, AllRegulated, span-offer, span-new}
+use Rattle.book.proofs.Spans.{span, enteredIn, Lawful, span-offer, span-new}
 use Rattle.book.proofs.Meetings.{Meeting, never, meets, meeting, spreadOf, meeting-conflict, passedBy, passed-parts}
 use Rattle.book.proofs.Takers.{passedAt}
 use Rattle.book.proofs.Charge.{passed, passed-more, charge}
@@ -97,14 +95,13 @@ module _ (p : Plan) (b : Book) (f s : ℕ) where
       ]
 
   -- what passed f from cycle s on is at most I(clock − s)
-  pub passes : s < b .clock → Traced p b → AllRegulated p b → count (passed p f s (b .clock)) (b .lines) ≤ interference p f (b .clock - s)
+  pub passes : Lawful p b → s < b .clock → count (passed p f s (b .clock)) (b .lines) ≤ interference p f (b .clock - s)
   unfolding interference
-  passes late tr held =
-      rw (count-split (passed p f s (b .clock)) (λ l. l .flow) (length (p .flows)) (b .lines) (λ l m t. tr .known l m))
-      (sum-mono _ (shareOf p f (b .clock - s)) (length (p .flows)) (λ g l. of-flow late g (held g l)))
+  passes law late =
+      rw (count-split (passed p f s (b .clock)) (λ l. l .flow) (length (p .flows)) (b .lines) (λ l m t. law .traced .known l m))
+      (sum-mono _ (shareOf p f (b .clock - s)) (length (p .flows)) (λ g l. of-flow late g (law .regulated g l)))
 
--- the cycles from s to the clock were each taken by a packet that passed f or by an entry of f: so they are through a window in which
--- f waits with a token
+-- each cycle from s to the clock was taken by a packet that passed f or by an entry of f, as it is while f waits with a token
 pub record Busy (p : Plan) (b : Book) (f s : ℕ) : Type 0 where
   pub now : s ≤ b .clock
   pub taken : b .clock ≤ s + (count (passed p f s (b .clock)) (b .lines) + span b f s (b .clock))
@@ -120,19 +117,19 @@ busy-offer p b f g s h =
       taken = omega (arith, h .taken, count-append (passed p f s (b .clock)) (b .lines) (offeredLine b g ∷ []), span-offer b g f s (b .clock));
     }
 
-module _ (p : Plan) (ok : PlanOk p) (b : Book) (f : ℕ) (in-plan : f < length (p .flows)) (tr : Traced p b) (q : Queued b) (held : AllRegulated p b) (s : ℕ) (busy : Busy p b f s) where
+module _ (p : Plan) (b : Book) (law : Lawful p b) (f s : ℕ) (busy : Busy p b f s) where
   -- a cycle more, with f waiting and with a token
   pub busy-step : any (waitsFor f) (b .lines) ≡ true → 1 ≤ (bucketAt b f) .tokens → Busy p (stepped p b) f s
   busy-step w token =
-      let own = span-new p ok b held tr q f s (busy .now) in
+      let own = span-new p b law f s (busy .now) in
       record {
         now = omega (arith, busy .now);
         taken = elim (test (enters p b f)) [
-          | inr out ↦ omega (arith, busy .taken, charge p ok b f tr q s (busy .now) w token out, ap one out)
-          | inl go ↦ omega (arith, busy .taken, passed-more p ok b f tr q s, ap one go)
+          | inr out ↦ omega (arith, busy .taken, charge p b law f s (busy .now) w token out, ap one out)
+          | inl go ↦ omega (arith, busy .taken, passed-more p b law f s, ap one go)
         ];
       }
 
   -- the window is no longer than I of its length and f's own entries
   pub busy-most : s < b .clock → b .clock - s ≤ interference p f (b .clock - s) + span b f s (b .clock)
-  busy-most late = omega (arith, busy .taken, passes p b f s late tr held)
+  busy-most late = omega (arith, busy .taken, passes p b f s law late)

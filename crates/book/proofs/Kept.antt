@@ -3,7 +3,7 @@
 use mathlib.Core.Bool.{Bool, true}
 use mathlib.Core.List.{List, [], _∷_}
 use mathlib.Core.Logic.{inl, inr, _≢_}
-use mathlib.Core.Path.{_≡_, refl, sym, ap, _∙_}
+use mathlib.Core.Path.{_≡_, ap}
 use Prim.Native.Nat.{ℕ, suc, _+_, _≤_, _<_}
 use native.Mathlib.Nat.{le-trans}
 use native.Mathlib.Decide.{ℕ-discrete}
@@ -11,7 +11,6 @@ use native.Mathlib.Omega.{arith}
 use borrow.Author.Tests.{leb-false, eqb-false, ne-eqb}
 use lib.Dec.{ltb, leb, eqb}
 use lib.ListN.{length}
-use Rattle.laws.specs.Bounded.{tabulate}
 use Rattle.laws.specs.Count.{count}
 use Rattle.laws.proofs.Cases.{test, and-true}
 use Rattle.laws.proofs.Count.{one-most, count-map, count-append, count-mono}
@@ -21,19 +20,16 @@ use Rattle.book.specs.Line.{Line, isWaiting}
 use Rattle.book.specs.Book.{Book, ofFlow, waitsFor, waitingOf, enteredOf, start, offered, offeredLine}
 use Rattle.book.specs.Cycle.{enters, move, stepped, Delivery}
 use Rattle.book.specs.Calls.{Call, offer, step, refused, refusal, roomFor, lastClock, mostWaiting, Fed, accepted, feed, runFrom, run}
-use Rattle.book.proofs.Moves.{moved-waits}
-use Rattle.book.proofs.Queue.{Queued, queued-step, queued-offer, entered-step, entered-offer}
-use Rattle.book.proofs.Traced.{Traced, traced-step, traced-offer}
-use Rattle.book.proofs.Spans.{AllRegulated, regulated-start, regulated-offer, regulated-step}
+use Rattle.book.proofs.Moves.{turn, waited}
+use Rattle.book.proofs.Queue.{entered-step, entered-offer}
+use Rattle.book.proofs.Spans.{Lawful, lawful-start, lawful-offer, lawful-step}
 use Rattle.book.proofs.Outputs.{Apart}
 use Rattle.book.proofs.Places.{apart-step, apart-offer}
 use Rattle.book.proofs.Pace.{Pace, pace-start, pace-offer, pace-step}
 use Rattle.book.proofs.Deliveries.{gone, step-delivered}
 
 pub record Kept (p : Plan) (b : Book) : Type 0 where
-  pub traced : Traced p b
-  pub queued : Queued b
-  pub regulated : AllRegulated p b
+  pub lawful : Lawful p b
   pub apart : Apart b
   pub pace : (f : ℕ) → f < length (p .flows) → (T H : ℕ) → suc H ≡ (flowAt p f) .period + T → interference p f T < T → Pace p b f T H
   pub clock-most : b .clock ≤ lastClock
@@ -63,16 +59,13 @@ feed-cases p b Q no′ offers steps (step room) =
       ]
     ]
 
-module _ (p : Plan) (ok : PlanOk p) where
-  kept-start : Kept p (start p)
-  unfolding tabulate
-  kept-start =
+module _ (p : Plan) where
+  kept-start : PlanOk p → Kept p (start p)
+  kept-start ok =
       record {
-        traced = record { known = λ l m. elim m [ ]; sound = λ l m. elim m [ ] };
-        queued = record { numbered = λ f. refl; entered-first = λ l m. elim m [ ] };
-        regulated = regulated-start p ok;
+        lawful = lawful-start p ok;
         apart = λ at. omega arith;
-        pace = λ f l T H sum window. pace-start p ok f l T H sum window;
+        pace = λ f l T H sum window. pace-start p f l T H sum window (lawful-start p ok);
         clock-most = omega arith;
         waiting-most = λ f. omega arith;
         entered-most = λ f. omega arith;
@@ -82,11 +75,9 @@ module _ (p : Plan) (ok : PlanOk p) where
     kept-offer : (f : ℕ) → f < length (p .flows) → waitingOf b f < mostWaiting → Kept p (offered b f)
     kept-offer f in-plan room =
         record {
-          traced = traced-offer p ok b (k .traced) f in-plan;
-          queued = queued-offer b (k .queued) f;
-          regulated = regulated-offer p ok b (k .regulated) f;
+          lawful = lawful-offer p b (k .lawful) f in-plan;
           apart = apart-offer b (k .apart) f;
-          pace = λ g l T H sum window. pace-offer p ok g l T H sum window b (k .pace g l T H sum window) f;
+          pace = λ g l T H sum window. pace-offer p g l T H sum window b (k .lawful) (k .pace g l T H sum window) f;
           clock-most = k .clock-most;
           waiting-most = more;
           entered-most = λ g. rw (entered-offer b f g) (k .entered-most g);
@@ -103,25 +94,22 @@ module _ (p : Plan) (ok : PlanOk p) where
     kept-step : b .clock ≢ lastClock → Kept p (stepped p b)
     kept-step early =
         record {
-          traced = traced-step p ok b (k .traced);
-          queued = queued-step b (k .queued) p;
-          regulated = regulated-step p ok b (k .regulated) (k .traced) (k .queued);
-          apart = apart-step p ok b (k .traced) (k .queued) (k .apart);
-          pace = λ g l T H sum window. pace-step p ok g l T H sum window b (k .pace g l T H sum window) (k .traced) (k .queued) (k .regulated);
+          lawful = lawful-step p b (k .lawful);
+          apart = apart-step p b (k .lawful) (k .apart);
+          pace = λ g l T H sum window. pace-step p g l T H sum window b (k .lawful) (k .pace g l T H sum window);
           clock-most = omega (arith, k .clock-most);
           waiting-most = fewer;
-          entered-most = λ f. omega (arith, entered-step b (k .queued) p f, one-most (enters p b f), k .entered-most f);
+          entered-most = λ f. omega (arith, entered-step b (k .lawful .queued) p f, one-most (enters p b f), k .entered-most f);
         }
       where
-        waited : (f : ℕ) (l : Line) → waitsFor f (move p b l) ≡ true → waitsFor f l ≡ true
-        waited f l t =
-            let h = and-true (ofFlow f l) (isWaiting ((move p b l) .stage)) t in
-            rw (h .0) (and-true (isWaiting (l .stage)) _ (sym (moved-waits p b l (l .stage)) ∙ h .1) .0)
+        waited′ : (f : ℕ) (l : Line) → waitsFor f (move p b l) ≡ true → waitsFor f l ≡ true
+        waited′ f l t =
+            let h = and-true (ofFlow f l) (isWaiting ((move p b l) .stage)) t in rw (h .0) (waited p b l (turn p b l) (h .1))
 
         fewer : (f : ℕ) → waitingOf (stepped p b) f ≤ mostWaiting
         fewer f =
             rw (count-map (waitsFor f) (move p b) (b .lines))
-            (le-trans (count-mono (λ l. waitsFor f (move p b l)) (waitsFor f) (b .lines) (λ l m t. waited f l t)) (k .waiting-most f))
+            (le-trans (count-mono (λ l. waitsFor f (move p b l)) (waitsFor f) (b .lines) (λ l m t. waited′ f l t)) (k .waiting-most f))
 
     kept-feed : (c : Call) → Kept p (feed p b c .book)
     kept-feed c = feed-cases p b (λ (fed : Fed). Kept p (fed .book)) (λ n. k) kept-offer (λ room early. kept-step early) c
@@ -132,7 +120,7 @@ module _ (p : Plan) (ok : PlanOk p) where
         feed-cases p b (λ (fed : Fed). count (gone r) (fed .book .lines) ≡ count (gone r) (b .lines) + count r (fed .delivered))
         (λ n. omega arith)
         (λ f l room. omega (arith, count-append (gone r) (b .lines) (offeredLine b f ∷ [])))
-        (λ room early. step-delivered p ok b (k .traced) r)
+        (λ room early. step-delivered p b (k .lawful) r)
         c
 
   kept-from : (cs : List Call) (b : Book) → Kept p b → Kept p (runFrom p b cs .book)
@@ -146,8 +134,8 @@ module _ (p : Plan) (ok : PlanOk p) where
       omega (arith, feed-delivered b k r c, delivered-from r cs (feed p b c .book) (kept-feed b k c), count-append r (feed p b c .delivered) (runFrom p (feed p b c .book) cs .delivered))
 
   -- after every list from the start
-  pub kept-run : (cs : List Call) → Kept p (run p cs .book)
-  kept-run cs = kept-from cs (start p) kept-start
+  pub kept-run : PlanOk p → (cs : List Call) → Kept p (run p cs .book)
+  kept-run ok cs = kept-from cs (start p) (kept-start ok)
 
-  pub delivered-run : (r : Delivery → Bool) (cs : List Call) → count (gone r) (run p cs .book .lines) ≡ count r (run p cs .delivered)
-  delivered-run r cs = omega (arith, delivered-from r cs (start p) kept-start)
+  pub delivered-run : PlanOk p → (r : Delivery → Bool) (cs : List Call) → count (gone r) (run p cs .book .lines) ≡ count r (run p cs .delivered)
+  delivered-run ok r cs = omega (arith, delivered-from r cs (start p) (kept-start ok))

@@ -9,6 +9,7 @@ pub mod Meetings
 pub mod Takers
 pub mod Charge
 pub mod Interference
+pub mod Head
 pub mod Pace
 pub mod Outputs
 pub mod Places

@@ -17,13 +17,13 @@ use Rattle.flow.specs.declared.Flow.{Flow}
 use Rattle.flow.specs.declared.Port.{Port}
 use Rattle.flow.specs.declared.Port.the-variants.{East, South}
 use Rattle.flow.specs.Offsets.{portOf}
-use Rattle.flow.specs.Plan.{Plan, flowAt, FlowOk, PlanOk}
+use Rattle.flow.specs.Plan.{Plan, flowAt, FlowOk}
 use Rattle.book.specs.Line.{Place, W, N, columnOf, rowOf, samePlace, Stage, waiting, placed, left, Line, standsIn}
 use Rattle.book.specs.Book.{Book, offered, offeredLine}
 use Rattle.book.specs.Cycle.{samePort, output, enters, lowest, sent, leaves, leavesBy, moveStage, move, stepped}
 use Rattle.book.proofs.Path.{Sound, placed-on}
-use Rattle.book.proofs.Queue.{Queued}
-use Rattle.book.proofs.Traced.{Traced, line-ok}
+use Rattle.book.proofs.Traced.{line-ok}
+use Rattle.book.proofs.Spans.{Lawful}
 use Rattle.book.proofs.Outputs.{Apart, one-output}
 
 -- the register that an output of the router in column x and row y leads to
@@ -119,7 +119,7 @@ sent-to p b l ok D (placed e here) h at t =
     }
 sent-to p b l ok D (left e t′ x y) h at t = absurd (false≢true t)
 
-module _ (p : Plan) (ok : PlanOk p) (b : Book) (tr : Traced p b) (q : Queued b) (apart : Apart b) where
+module _ (p : Plan) (b : Book) (law : Lawful p b) (apart : Apart b) where
   pub apart-step : Apart (stepped p b)
   apart-step at =
       rw (count-map (λ (l : Line). standsIn at (l .stage)) (move p b) (b .lines))
@@ -136,7 +136,7 @@ module _ (p : Plan) (ok : PlanOk p) (b : Book) (tr : Traced p b) (q : Queued b) 
       there l = standsIn at (moveStage p b l (l .stage))
 
       to : (l : Line) → Mem l (b .lines) → there l ≡ true → SentTo p b l (l .stage) at
-      to l m t = sent-to p b l (line-ok p ok b tr l m) (l .D) (l .stage) (tr .sound l m) at t
+      to l m t = sent-to p b l (line-ok p (law .plan) b (law .traced) l m) (l .D) (l .stage) (law .traced .sound l m) at t
 
       same : (l : Line) (x y x′ y′ : ℕ) (o o′ : Port) → (x′ ≡ x) × (y′ ≡ y) × (o′ ≡ o) → leaves p b l x′ y′ o′ (l .stage) ≡ true → leavesBy p b x y o l ≡ true
       same l x y x′ y′ o o′ e t = rw (e .0, e .1, e .2) at t
@@ -146,7 +146,7 @@ module _ (p : Plan) (ok : PlanOk p) (b : Book) (tr : Traced p b) (q : Queued b) 
           le-trans
           (count-mono there (leavesBy p b (fed .x) (fed .y) (fed .o)) (b .lines)
           (λ l m t. let w = to l m t in same l (fed .x) (fed .y) (w .x) (w .y) (fed .o) (w .o) (fed .only (w .x) (w .y) (w .o) (w .column) (w .row) (w .reached)) (w .by-output)))
-          (one-output p b (fed .x) (fed .y) apart q (fed .o))
+          (one-output p b (fed .x) (fed .y) apart (law .queued) (fed .o))
 
 pub apart-offer : (b : Book) → Apart b → (f : ℕ) → Apart (offered b f)
 apart-offer b apart f at = omega (arith, apart at, count-append (λ (l : Line). standsIn at (l .stage)) (b .lines) (offeredLine b f ∷ []))

@@ -24,18 +24,22 @@ use Rattle.book.specs.Promises.{deadline, EntersBy, sameWords, delivers,
 use Rattle.book.proofs.Path.{Sound, entered-before}
 use Rattle.book.proofs.Queue.{entered-within, serial-range, serial-once}
 use Rattle.book.proofs.Traced.{line-ok}
+use Rattle.book.proofs.Spans.{Lawful}
 use Rattle.book.proofs.Outputs.{one-output}
 use Rattle.book.proofs.Pace.{Pace, waiting-due}
 use Rattle.book.proofs.Deliveries.{gone}
 use Rattle.book.proofs.Kept.{Kept, kept-run, delivered-run}
 use Rattle.book.proofs.State.{sound-in-place, sound-flies, sound-deflections}
 
-module _ (p : Plan) (ok : PlanOk p) (b : Book) (k : Kept p b) where
+module _ (p : Plan) (b : Book) (k : Kept p b) where
+  abbrev law : Lawful p b
+  law = k .lawful
+
   enters-in-time : (l : Line) → Mem l (b .lines) → (T : ℕ) → windowOf p (l .flow) ≡ At T → EntersBy (deadline p l T) (b .clock) (l .stage)
-  enters-in-time l m T e = by-stage (l .stage) (λ w. omega (arith, waiting-due p ok (l .flow) known T H sum free b pace (k .queued) l m refl w)) (λ w. omega (arith, pace .timely l m refl w))
+  enters-in-time l m T e = by-stage (l .stage) (λ w. omega (arith, waiting-due p (l .flow) known T H sum free b law pace l m refl w)) (λ w. omega (arith, pace .timely l m refl w))
     where
       known : l .flow < length (p .flows)
-      known = k .traced .known l m
+      known = law .traced .known l m
 
       H : ℕ
       H = (flowAt p (l .flow)) .period + T - 1
@@ -55,23 +59,23 @@ module _ (p : Plan) (ok : PlanOk p) (b : Book) (k : Kept p b) where
       by-stage (left e t x y) w d = d refl
 
   in-state : (l : Line) → Mem l (b .lines) → InState p b l (l .stage)
-  in-state l m = by-stage (l .stage) (k .traced .sound l m) (entered-within b (k .queued) l m)
+  in-state l m = by-stage (l .stage) (law .traced .sound l m) (entered-within b (law .queued) l m)
     where
       φ : Flow
       φ = flowAt p (l .flow)
 
       okl : FlowOk (p .sx) (p .sy) (flowAt p (l .flow))
-      okl = line-ok p ok b (k .traced) l m
+      okl = line-ok p (law .plan) b (law .traced) l m
 
       by-stage : (s : Stage) → Sound p (flowAt p (l .flow)) (b .clock) (l .D) s → (isWaiting s ≡ false → l .serial ≤ enteredOf b (l .flow)) → InState p b l s
       by-stage waiting h w = tt
       by-stage (placed e at) h w =
-          (serial-range b (k .queued) l m .0, w refl, entered-before p _ okl (b .clock) (l .D) (placed e at) h refl, sound-in-place p _ okl (b .clock) (l .D) e at h)
+          (serial-range b (law .queued) l m .0, w refl, entered-before p _ okl (b .clock) (l .D) (placed e at) h refl, sound-in-place p _ okl (b .clock) (l .D) e at h)
       by-stage (left e t x y) h w = tt
 
   flow-in-state : (f : ℕ) → f < length (p .flows) → FlowInState p b f
   flow-in-state f l =
-      record { bucket-fits = fits _ _ (bucketAt b f) (b .clock) _ (k .regulated f l); waiting-most = k .waiting-most f; entered-most = k .entered-most f }
+      record { bucket-fits = fits _ _ (bucketAt b f) (b .clock) _ (law .regulated f l); waiting-most = k .waiting-most f; entered-most = k .entered-most f }
 
   -- what has left was delivered, and the other way round, whatever is asked of a delivery
   module _ (ds : List Delivery) (told : (r : Delivery → Bool) → count (gone r) (b .lines) ≡ count r ds) where
@@ -84,8 +88,8 @@ module _ (p : Plan) (ok : PlanOk p) (b : Book) (k : Kept p b) where
         let most : count (gone (delivers l)) (b .lines) ≤ count (λ h. ofFlow (l .flow) h && eqb (h .serial) (l .serial)) (b .lines) =
         count-mono (gone (delivers l)) (λ h. ofFlow (l .flow) h && eqb (h .serial) (l .serial)) (b .lines) (λ h n t. same h t) in
         let least = mem-count (gone (delivers l)) (b .lines) m (rw left′ (same-refl (deliveryOf l))) in
-        let range = serial-range b (k .queued) l m in
-        omega (arith, told (delivers l), serial-once b (k .queued) (l .flow) (l .serial) (range .0) (range .1))
+        let range = serial-range b (law .queued) l m in
+        omega (arith, told (delivers l), serial-once b (law .queued) (l .flow) (l .serial) (range .0) (range .1))
       where
         two : (s t u v w : Bool) → s && t && u && v && w ≡ true → s && t ≡ true
         two s t u v w e = and-true (s && t) u (and-true (s && t && u) v (and-true (s && t && u && v) w e .0) .0) .0
@@ -108,15 +112,15 @@ module _ (p : Plan) (ok : PlanOk p) (b : Book) (k : Kept p b) where
     kept-promises =
         record {
           enters-by = enters-in-time;
-          deflections-most = λ l m. sound-deflections p _ (line-ok p ok b (k .traced) l m) (b .clock) (l .D) (l .stage) (k .traced .sound l m);
-          flies = λ l m. sound-flies p _ (line-ok p ok b (k .traced) l m) (b .clock) (l .D) (l .stage) (k .traced .sound l m);
+          deflections-most = λ l m. sound-deflections p _ (line-ok p (law .plan) b (law .traced) l m) (b .clock) (l .D) (l .stage) (law .traced .sound l m);
+          flies = λ l m. sound-flies p _ (line-ok p (law .plan) b (law .traced) l m) (b .clock) (l .D) (l .stage) (law .traced .sound l m);
           delivered-once = once;
           delivered-only = only;
           apart = k .apart;
-          one-output = λ x y o. one-output p b x y (k .apart) (k .queued) o;
-          known = k .traced .known;
-          numbered = k .queued .numbered;
-          entered-first = k .queued .entered-first;
+          one-output = λ x y o. one-output p b x y (k .apart) (law .queued) o;
+          known = law .traced .known;
+          numbered = law .queued .numbered;
+          entered-first = law .queued .entered-first;
           clock-most = k .clock-most;
           flow-in-state = flow-in-state;
           in-state = in-state;
@@ -124,4 +128,4 @@ module _ (p : Plan) (ok : PlanOk p) (b : Book) (k : Kept p b) where
 
 -- the packet book keeps its promises
 pub promises : (p : Plan) → PlanOk p → (calls : List Call) → Promises p (run p calls .book) (run p calls .delivered)
-promises p ok calls = kept-promises p ok (run p calls .book) (kept-run p ok calls) (run p calls .delivered) (λ r. delivered-run p ok r calls)
+promises p ok calls = kept-promises p (run p calls .book) (kept-run p ok calls) (run p calls .delivered) (λ r. delivered-run p ok r calls)

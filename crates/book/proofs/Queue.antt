@@ -8,7 +8,7 @@ use Prim.Native.Nat.{ℕ, zero, suc, _+_, _≤_, _<_}
 use native.Mathlib.Decide.{ℕ-discrete}
 use native.Mathlib.Nat.{add-zero}
 use native.Mathlib.Omega.{arith}
-use borrow.Author.Tests.{lt-ltb, le-ltb, ltb-true, ltb-false, eq-eqb, ne-eqb, eqb-true}
+use borrow.Author.Tests.{lt-ltb, le-ltb, ltb-true, ltb-false, eq-eqb, ne-eqb, eqb-true, eqb-false}
 use lib.Dec.{ltb, eqb}
 use Rattle.laws.specs.Bounded.{tabulate}
 use Rattle.laws.specs.Count.{one, count, any, keep}
@@ -20,7 +20,7 @@ use Rattle.book.specs.Line.{Line, isWaiting}
 use Rattle.book.specs.Book.{Book, ofFlow, waitsFor, enteredFor, totalOf, waitingOf, enteredOf, offered, offeredLine}
 use Rattle.book.specs.Cycle.{enters, lowest, move, stepped}
 use Rattle.book.proofs.Entries.{entering-ready}
-use Rattle.book.proofs.Moves.{goes, moved-waits}
+use Rattle.book.proofs.Moves.{goes, Turn, keeps, stays, comes, turn, goes-enters}
 
 abbrev serialOf : Line → ℕ
 serialOf l = l .serial
@@ -167,19 +167,18 @@ module _ (b : Book) (q : Queued b) where
               | no e ↦ rw (ne-eqb (l .flow) f e)
             ]
 
-    -- a flow's entries, and the lines that wait, after a step
+    -- a flow's entries after a step
     pub entered-step : (f : ℕ) → enteredOf (stepped p b) f ≡ enteredOf b f + one (enters p b f)
     entered-step f =
         count-map (enteredFor f) (move p b) (b .lines)
-        ∙ count-sum (λ l. enteredFor f (move p b l)) (enteredFor f) (λ l. ofFlow f l && goes p b l) (b .lines)
-        (λ l m. rw (moved-waits p b l (l .stage)) (sums (ofFlow f l) (isWaiting (l .stage)) (enters p b (l .flow) && lowest b l)))
+        ∙ count-sum (λ l. enteredFor f (move p b l)) (enteredFor f) (λ l. ofFlow f l && goes p b l) (b .lines) (λ l m. sums (ofFlow f l) l (turn p b l))
         ∙ ap (λ (n : ℕ). enteredOf b f + n) (goes-count f)
       where
-        sums : (s w g : Bool) → one (s && not (w && not g)) ≡ one (s && not w) + one (s && (w && g))
-        sums true true true = refl
-        sums true true false = refl
-        sums true false g = refl
-        sums false w g = refl
+        sums : (s : Bool) (l : Line) → Turn p b l → one (s && not (isWaiting ((move p b l) .stage))) ≡ one (s && not (isWaiting (l .stage))) + one (s && goes p b l)
+        sums false l t = refl
+        sums true l (keeps w w′ e g) = rw (g, w, w′)
+        sums true l (stays w w′ g) = rw (g, w, w′)
+        sums true l (comes w w′ e g) = rw (g, w, w′)
 
     serials-step : (f : ℕ) (ls : List Line) → map serialOf (keep (ofFlow f) (map (move p b) ls)) ≡ map serialOf (keep (ofFlow f) ls)
     serials-step f [] = refl
@@ -191,26 +190,28 @@ module _ (b : Book) (q : Queued b) where
     queued-step =
         record {
           numbered = λ f. serials-step f (b .lines) ∙ q .numbered f ∙ ap (λ (n : ℕ). tabulate n (λ i. i + 1)) (sym (count-map (ofFlow f) (move p b) (b .lines)));
-          entered-first = λ l m. let k = mem-map (b .lines) m in rw (k .2) (first (k .0) (k .1));
+          entered-first = λ l m. let k = mem-map (b .lines) m in rw (k .2) (first (k .0) (k .1) (turn p b (k .0)));
         }
       where
-        first : (l : Line) → Mem l (b .lines) → isWaiting ((move p b l) .stage) ≡ ltb (enteredOf (stepped p b) (l .flow)) (l .serial)
-        first l m =
-            rw (moved-waits p b l (l .stage), entered-step (l .flow))
-            (elim (test (isWaiting (l .stage))) [
-              | inr w ↦ rw (w, le-ltb (enteredOf b (l .flow) + one (enters p b (l .flow))) (l .serial) (omega (arith, entered-within l m w)))
-              | inl w ↦
-                  let past = waits-past l m w in
-                  elim (test (enters p b (l .flow))) [
-                    | inr en ↦ rw (w, en, lt-ltb (enteredOf b (l .flow) + 0) (l .serial) (omega arith))
-                    | inl en ↦ elim (ℕ-discrete (l .serial) (enteredOf b (l .flow) + 1)) [
-                      | yes e ↦
-                          rw (w, en, lowest-next l m w, eq-eqb (l .serial) (enteredOf b (l .flow) + 1) e, le-ltb (enteredOf b (l .flow) + 1) (l .serial) (omega arith))
-                      | no e ↦
-                          rw (w, en, lowest-next l m w, ne-eqb (l .serial) (enteredOf b (l .flow) + 1) e, lt-ltb (enteredOf b (l .flow) + 1) (l .serial) (omega arith))
-                    ]
-                  ]
-            ])
+        first : (l : Line) → Mem l (b .lines) → Turn p b l → isWaiting ((move p b l) .stage) ≡ ltb (enteredOf (stepped p b) (l .flow)) (l .serial)
+        first l m (keeps w w′ e g) =
+            rw (w′, entered-step (l .flow), le-ltb (enteredOf b (l .flow) + one (enters p b (l .flow))) (l .serial) (omega (arith, entered-within l m w)))
+        first l m (comes w w′ e g) =
+            let en = goes-enters p b l g in
+            let next = eqb-true (l .serial) (enteredOf b (l .flow) + 1) (sym (goes-next l m en) ∙ g) in
+            rw (w′, entered-step (l .flow), en, le-ltb (enteredOf b (l .flow) + 1) (l .serial) (omega arith))
+        first l m (stays w w′ g) =
+            let past = waits-past l m w in
+            elim (test (enters p b (l .flow))) [
+              | inr out ↦ rw (w′, entered-step (l .flow), out, lt-ltb (enteredOf b (l .flow) + 0) (l .serial) (omega arith))
+              | inl en ↦
+                  let other = eqb-false (l .serial) (enteredOf b (l .flow) + 1) (sym (goes-next l m en) ∙ g) in
+                  let later : enteredOf b (l .flow) + 1 < l .serial = below other past in
+                  rw (w′, entered-step (l .flow), en, lt-ltb (enteredOf b (l .flow) + 1) (l .serial) later)
+            ]
+          where
+            below : {m n : ℕ} → n ≢ m + 1 → m < n → m + 1 < n
+            below other past = omega arith
 
   -- an offer keeps the queue
   pub queued-offer : (f : ℕ) → Queued (offered b f)
