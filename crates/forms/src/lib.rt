@@ -11,8 +11,10 @@ ghost use lib.ListN.{length, getD};
 ghost use Rattle.laws.specs.Bounded.{allBelow};
 ghost use Rattle.flow.specs.Plan.{FlowOk, mostSize};
 ghost use Rattle.book.specs.InPlace.{inNorth, inFirstRow, inLaterRow, inPlace};
-ghost use Rattle.state.specs.Layout.{headerSize, flowSize, flowPlace};
-ghost use Rattle.state.specs.Forms.{placeOf, headerFits, numbersFit, tallyFits, flowFits};
+ghost use Rattle.state.specs.declared.Register.the-variants.{Packet};
+ghost use Rattle.state.specs.Layout.{headerSize, flowSize, registerSize, flowPlace};
+ghost use Rattle.state.specs.Read.{sxIn, syIn, countIn, routerIn};
+ghost use Rattle.state.specs.Forms.{placeOf, headerFits, numbersFit, tallyFits, flowFits, FlowsFit, contentsFit, registerFits, cellFits, restFits, sizeIn, stateNumber};
 
 // Some words from a place on are 0.
 fn are_zero(w: &[u32], at: usize, count: usize) -> bool
@@ -180,4 +182,145 @@ fn in_place(sx: u32, sy: u32, f: Flow, input: Input, x: u32, y: u32, d: u32, e: 
             in_later_row(sx, sy, f, x, r, d, e)
         }
     }
+}
+
+// The packet of a register is that of a state.
+fn packet_fits(
+    w: &[u32],
+    input: Input,
+    x: u32,
+    y: u32,
+    flow: u32,
+    serial: u32,
+    entry: u32,
+    d: u32,
+) -> bool
+    requires { ⌜ FlowsFit (now w) ⌝ }
+    requires { ⌜ (x < sxIn (now w)) × (y < syIn (now w)) ⌝ }
+    ensures { λ r. ⌜ r ≡ contentsFit (now (w .entry)) (placeOf input x y) 0 (Packet flow serial entry d) ⌝ }
+{
+    if w[2] <= flow {
+        return false;
+    }
+    if serial < 1 {
+        return false;
+    }
+    let at = 8 + 10 * (flow as usize);
+    if w[at + 8] < serial {
+        return false;
+    }
+    let clock = w[3];
+    if clock <= entry {
+        return false;
+    }
+    in_place(
+        w[0],
+        w[1],
+        state::flow_in(w, at),
+        input,
+        x,
+        y,
+        d,
+        clock - entry,
+    )
+}
+
+// The four words of a register are those of a state.
+fn register_fits(w: &[u32], input: Input, x: u32, y: u32, at: usize) -> bool
+    requires { ⌜ FlowsFit (now w) ⌝ }
+    requires { ⌜ (x < sxIn (now w)) × ((y < syIn (now w)) × (at + registerSize ≤ length (now w))) ⌝ }
+    ensures { λ r. ⌜ r ≡ registerFits (now (w .entry)) (placeOf input x y) at ⌝ }
+{
+    match state::register_at(w, at) {
+        Register::Empty => are_zero(w, at, 4),
+        Register::Packet {
+            flow,
+            serial,
+            entry,
+            deflections,
+        } => packet_fits(w, input, x, y, flow, serial, entry, deflections),
+    }
+}
+
+// Where the registers of the router in column x and row y stand.
+pub fn router_at(w: &[u32], x: u32, y: u32) -> usize
+    requires { ⌜ (headerSize ≤ length (now w)) × (headerFits (now w) ≡ true) ⌝ }
+    requires { ⌜ (x < sxIn (now w)) × (y < syIn (now w)) ⌝ }
+    ensures { λ r. ⌜ r ≡ routerIn (now (w .entry)) x y ⌝ }
+{
+    let cell = y * w[0] + x;
+    8 + 10 * (w[2] as usize) + 8 * (cell as usize)
+}
+
+// Both registers of a router are those of a state.
+fn cell_fits(w: &[u32], x: u32, y: u32) -> bool
+    requires { ⌜ FlowsFit (now w) ⌝ }
+    requires { ⌜ (x < sxIn (now w)) × (y < syIn (now w)) ⌝ }
+    ensures { λ r. ⌜ r ≡ cellFits (now (w .entry)) x y ⌝ }
+{
+    let at = router_at(w, x, y);
+    if !register_fits(w, Input::West, x, y, at) {
+        return false;
+    }
+    register_fits(w, Input::North, x, y, at + 4)
+}
+
+// All registers of a row are those of a state.
+fn row_fits(w: &[u32], y: u32) -> bool
+    requires { ⌜ FlowsFit (now w) ⌝ }
+    requires { ⌜ y < syIn (now w) ⌝ }
+    ensures { λ r. ⌜ r ≡ allBelow (sxIn (now (w .entry))) (λ x. cellFits (now (w .entry)) x y) ⌝ }
+{
+    let sx = w[0];
+    for x in 0..sx {
+        if !cell_fits(w, x, y) {
+            return false;
+        }
+    }
+    true
+}
+
+// All registers are those of a state.
+fn rows_fit(w: &[u32]) -> bool
+    requires { ⌜ FlowsFit (now w) ⌝ }
+    ensures { λ r. ⌜ r ≡ allBelow (syIn (now (w .entry))) (λ y. allBelow (sxIn (now (w .entry))) (λ x. cellFits (now (w .entry)) x y)) ⌝ }
+{
+    let sy = w[1];
+    for y in 0..sy {
+        if !row_fits(w, y) {
+            return false;
+        }
+    }
+    true
+}
+
+// The size that the header asks for.
+fn size_in(w: &[u32]) -> usize
+    requires { ⌜ (headerSize ≤ length (now w)) × (headerFits (now w) ≡ true) ⌝ }
+    ensures { λ r. ⌜ r ≡ sizeIn (now (w .entry)) ⌝ }
+{
+    8 + 10 * (w[2] as usize) + 8 * ((w[0] * w[1]) as usize)
+}
+
+// 0 for words that form a state, otherwise 8 or 9: what every call on a state refuses first.
+pub fn state_number(w: &[u32]) -> u32
+    ensures { λ r. ⌜ r ≡ stateNumber (now (w .entry)) ⌝ }
+{
+    let length = w.len();
+    if length < 8 {
+        return 8;
+    }
+    if !header_fits(w) {
+        return 9;
+    }
+    if length < size_in(w) {
+        return 8;
+    }
+    if !flows_fit(w, w[2] as usize) {
+        return 9;
+    }
+    if !rows_fit(w) {
+        return 9;
+    }
+    0
 }

@@ -1,7 +1,8 @@
 -- When words form a state, and what a call on a state refuses first: 8 and 9 (01, State memory; When a call says no).
-use mathlib.Core.Bool.{Bool, cond, not, _&&_}
+use mathlib.Core.Bool.{Bool, true, cond, not, _&&_}
 use mathlib.Core.List.{List}
-use Prim.Native.Nat.{ℕ, _+_, _-_}
+use mathlib.Core.Path.{_≡_}
+use Prim.Native.Nat.{ℕ, _+_, _-_, _≤_}
 use lib.Dec.{ltb, leb, eqb}
 use lib.ListN.{length, getD}
 use Rattle.laws.specs.Bounded.{allBelow}
@@ -79,6 +80,12 @@ restFits w =
 -- the size that the header asks for
 abbrev pub sizeIn : List ℕ → ℕ
 sizeIn w = stateSize (countIn w) (sxIn w) (syIn w)
+
+-- the header and every flow fit, and the words are as many as the header asks for
+pub record FlowsFit (w : List ℕ) : Type 0 where
+  pub header : headerFits w ≡ true
+  pub long : sizeIn w ≤ length w
+  pub flows : allBelow (countIn w) (flowFits w) ≡ true
 
 -- 8 under eight words; 9 for the first eight words; 8 for the whole size; 9 for the rest; 0 for words that form a state
 unfoldable pub stateNumber : List ℕ → ℕ
