@@ -28,7 +28,7 @@ use Rattle.book.specs.Book.{Book, ofFlow, enteredOf}
 use Rattle.book.specs.Cycle.{samePort, deflected, lowest, move}
 use Rattle.book.specs.Cycle
 use Rattle.book.proofs.Path.{Sound}
-use Rattle.book.proofs.Moves.{goes, new-entry}
+use Rattle.book.proofs.Moves.{goes, Turn, keeps, stays, comes, turn}
 use Rattle.book.proofs.Entries.{client-same, one-enters}
 use Rattle.book.proofs.Queue.{lowest-next, goes-count}
 use Rattle.state.specs.declared.Register.{Register}
@@ -37,8 +37,9 @@ use Rattle.state.specs.State.{State, tallyAt}
 use Rattle.cycle.specs.Router.{firstOf}
 use Rattle.cycle.specs.Entry.{entering, isPort, uses, clientBelow, clientSends}
 use Rattle.cycle.specs.Entry
+use Rattle.book.proofs.Kept.{Kept}
 use Rattle.run.specs.View.{packetOf, holding, bookState}
-use Rattle.run.proofs.View.{Orderly, tally-at}
+use Rattle.run.proofs.View.{tally-at}
 use Rattle.run.proofs.Entry.{enters-same}
 use Rattle.run.proofs.Sends.{atPort}
 use Rattle.run.proofs.Outgoing.{entersBy, Entering, entering-parts}
@@ -78,16 +79,21 @@ waits-fresh p b f c D waiting w h = rw (add-zero, h)
 waits-fresh p b f c D (placed e at) w h = absurd (false≢true w)
 waits-fresh p b f c D (left e t x y) w h = absurd (false≢true w)
 
-module _ (p : Plan) (b : Book) (o : Orderly p b) where
+module _ (p : Plan) (b : Book) (o : Kept p b) where
   -- the packet of a line that enters
   packet-enters : (l : Line) → Mem l (b .lines) → goes p b l ≡ true → packetOf (move p b l) ≡ Packet (l .flow) (enteredOf b (l .flow) + 1) (b .clock) 0
-  packet-enters l m e =
-      let g = Cases.and-true (isWaiting (l .stage)) (Cycle.enters p b (l .flow) && lowest b l) e in
-      let n = Cases.and-true (Cycle.enters p b (l .flow)) (lowest b l) (g .1) in
-      let serial = eqb-true (l .serial) (enteredOf b (l .flow) + 1) (sym (lowest-next b (o .queued) l m (g .0)) ∙ n .1) in
-      let entry = new-entry p b l (l .stage) (g .0) (g .1) in
-      let D = waits-fresh p b (flowAt p (l .flow)) (b .clock) (l .D) (l .stage) (g .0) (o .traced .sound l m) in
+  packet-enters l m g =
+      let w = Cases.and-true (isWaiting (l .stage)) (Cycle.enters p b (l .flow) && lowest b l) g in
+      let low = Cases.and-true (Cycle.enters p b (l .flow)) (lowest b l) (w .1) .1 in
+      let serial = eqb-true (l .serial) (enteredOf b (l .flow) + 1) (sym (lowest-next b (o .lawful .queued) l m (w .0)) ∙ low) in
+      let D = waits-fresh p b (flowAt p (l .flow)) (b .clock) (l .D) (l .stage) (w .0) (o .lawful .traced .sound l m) in
+      let entry = new-entry (turn p b l) in
       λ i. Packet (l .flow) (serial i) (entry i) (D i)
+    where
+      new-entry : Turn p b l → entryOf ((move p b l) .stage) ≡ b .clock
+      new-entry (keeps w w′ e g′) = absurd (false≢true (sym g′ ∙ g))
+      new-entry (stays w w′ g′) = absurd (false≢true (sym g′ ∙ g))
+      new-entry (comes w w′ e g′) = e
 
   module _ (x y : ℕ) (port : Port) where
     abbrev s : State
@@ -108,7 +114,7 @@ module _ (p : Plan) (b : Book) (o : Orderly p b) where
     none-enters h =
         keep-none (entersBy p b x y port) (b .lines)
         (λ l m.
-        let below = o .traced .known l m in
+        let below = o .lawful .traced .known l m in
         out (isWaiting (l .stage)) (Cycle.enters p b (l .flow)) (lowest b l) (takes (l .flow))
         (rw (← (uses-same (l .flow)), ← (enters-same p b o (l .flow) below)) (none-at (admits s x y port) (length (p .flows)) h (l .flow) below)))
       where
@@ -145,7 +151,7 @@ module _ (p : Plan) (b : Book) (o : Orderly p b) where
       unfolding bookState
       one-sent =
           let t : Line → Bool = λ l. ofFlow f l && goes p b l in
-          let n = goes-count b (o .queued) p f in
+          let n = goes-count b (o .lawful .queued) p f in
           let c : count t (b .lines) ≡ 1 = n ∙ ap one f-enters in
           let l = any-true t (b .lines) (count-any t (b .lines) (omega arith)) in
           let h = Cases.and-true (ofFlow f (l .0)) (goes p b (l .0)) (l .2) in (

@@ -24,8 +24,8 @@ use Rattle.book.proofs.Traced.{line-ok}
 use Rattle.cycle.specs.Router.{atHome}
 use Rattle.cycle.specs.Step.{exits, southward, delivered, stepDelivers}
 use Rattle.cycle.specs.Calls.{exitCount}
+use Rattle.book.proofs.Kept.{Kept}
 use Rattle.run.specs.View.{bookState}
-use Rattle.run.proofs.View.{Orderly}
 use Rattle.run.proofs.Sends.{isHome, moved, left-tells}
 use Rattle.run.proofs.Step.{new-lines, southbound}
 
@@ -43,7 +43,7 @@ words-append (x ∷ d) e = rw (words-append d e)
 abbrev leavers : Plan → Book → (x y : ℕ) → List Line
 leavers p b x y = keep (λ l. leftAt (b .clock) x y (l .stage)) ((stepped p b) .lines)
 
-module _ (p : Plan) (b : Book) (ord : Orderly p b) where
+module _ (p : Plan) (b : Book) (ord : Kept p b) where
   record Router (x y : ℕ) : Type 0 where
     words : delivered (bookState p b) x y ≡ wordsOf (map deliveryOf (leavers p b x y))
     count : one (exits (bookState p b) x y) ≡ length (leavers p b x y)
@@ -62,7 +62,7 @@ module _ (p : Plan) (b : Book) (ord : Orderly p b) where
                   record { words = rw (e, some .1 .only, some .1 .held, away); count = rw (e, some .1 .only, some .1 .held, away) }
               | inl home ↦
                   let gone : leftAt (b .clock) x y ((move p b l) .stage) ≡ true =
-                  moved p b x y South _ _ k l (l .D) (l .stage) (line-ok p (ord .plan-ok) b (ord .traced) l (some .1 .member)) (ord .traced .sound l (some .1 .member))
+                  moved p b x y South _ _ k l (l .D) (l .stage) (line-ok p (ord .lawful .plan) b (ord .lawful .traced) l (some .1 .member)) (ord .lawful .traced .sound l (some .1 .member))
                   ∙ rw (some .1 .sent, home) in
                   let exit = left-exit (b .clock) x y ((move p b l) .stage) gone in
                   record {

@@ -19,15 +19,16 @@ use Rattle.book.specs.Cycle
 use Rattle.state.specs.State.{cellAt, tallyAt}
 use Rattle.cycle.specs.Entry.{portOpen}
 use Rattle.cycle.specs.Entry
+use Rattle.book.proofs.Kept.{Kept}
 use Rattle.run.specs.View.{cellOf, tallyOf, bookState}
-use Rattle.run.proofs.View.{Orderly, tally-at, cell-at, empty-register, west-turns}
+use Rattle.run.proofs.View.{tally-at, cell-at, empty-register, west-turns}
 
 any-same : (p q : ℕ → Bool) (n : ℕ) → ((i : ℕ) → i < n → p i ≡ q i) → anyBelow n p ≡ anyBelow n q
 unfolding anyBelow
 any-same p q zero h = refl
 any-same p q (suc n) h = rw (any-same p q n (λ i l. h i (omega arith)), h n (omega arith))
 
-module _ (p : Plan) (b : Book) (o : Orderly p b) where
+module _ (p : Plan) (b : Book) (o : Kept p b) where
   pub open-same : (x y : ℕ) (port : Port) → portOpen p x (cellOf b x y) port ≡ isOpen p b x y port
   open-same x y East = empty-register p b (W x y)
   open-same x y South = rw (empty-register p b (N x y), west-turns p b (o .apart) x y)
@@ -35,7 +36,7 @@ module _ (p : Plan) (b : Book) (o : Orderly p b) where
   pub ready-same : (f : ℕ) → f < length (p .flows) → Entry.ready (bookState p b) f ≡ Cycle.ready p b f
   unfolding Entry.ready Cycle.ready bookState
   ready-same f l =
-      let ok = o .plan-ok .flow-ok f l in
+      let ok = o .lawful .plan .flow-ok f l in
       let φ : Flow = flowAt p f in
       rw (
         tally-at p b f l,

@@ -16,13 +16,14 @@ use Rattle.laws.proofs.Bounded.{all-intro}
 use Rattle.laws.proofs.Keep.{kept}
 use Rattle.laws.proofs.Stands.{Stands}
 use Rattle.flow.specs.declared.Flow.{Flow}
-use Rattle.flow.specs.Plan.{Plan, flowAt, FlowOk, PlanOk, mostSize, mostFlows, mostPeriod, mostBurst}
+use Rattle.flow.specs.Plan.{Plan, flowAt, FlowOk, mostSize, mostFlows, mostPeriod, mostBurst}
 use Rattle.book.specs.Line.{Place, W, N, samePlace, Stage, waiting, placed, left, Line, standsIn, entryOf}
 use Rattle.book.specs.Book.{Book, waitingOf, enteredOf}
-use Rattle.book.specs.Cycle.{Delivery}
 use Rattle.book.specs.Calls.{mostWaiting}
 use Rattle.book.specs.InPlace.{inPlace}
-use Rattle.book.specs.Promises.{FlowInState, InState, Promises}
+use Rattle.book.specs.Promises.{InState}
+use Rattle.book.proofs.Kept.{Kept}
+use Rattle.book.proofs.Promises.{in-state, flow-in-state}
 use Rattle.state.specs.declared.Register.{Register}
 use Rattle.state.specs.declared.Register.the-variants.{Empty, Packet}
 use Rattle.state.specs.declared.Tally.{Tally}
@@ -69,7 +70,7 @@ in-register p b l at waiting e h = absurd (false≢true e)
 in-register p b l at (placed entry at′) e h = record { least = h .0; most = h .1; before = h .2; in-place = rw (place-same at at′ e) at (h .3) }
 in-register p b l at (left entry t x y) e h = absurd (false≢true e)
 
-module _ (p : Plan) (ok : PlanOk p) (b : Book) (ds : List Delivery) (kept′ : Promises p b ds) (w : List ℕ) (h : Stands 0 w 0 (stateWords (bookState p b))) where
+module _ (p : Plan) (b : Book) (k : Kept p b) (w : List ℕ) (h : Stands 0 w 0 (stateWords (bookState p b))) where
   s : State
   s = bookState p b
 
@@ -97,9 +98,10 @@ module _ (p : Plan) (ok : PlanOk p) (b : Book) (ds : List Delivery) (kept′ : P
   unfolding bookState
   tally-is f l = tally-at-read (bookState p b) w h f l ∙ tally-at p b f l
 
-  header-fits : headerFits w ≡ true
+  pub header-fits : headerFits w ≡ true
   unfolding headerFits allBelow bookState
   header-fits =
+      let ok = k .lawful .plan in
       let head = part (bookState p b) w h 0 _ (header-stands (bookState p b)) in
       rw (
         sx-is,
@@ -120,13 +122,13 @@ module _ (p : Plan) (ok : PlanOk p) (b : Book) (ds : List Delivery) (kept′ : P
   tally-fits : (f : ℕ) → f < length (p .flows) → tallyFits (b .clock) (flowAt p f) (tallyOf b f) ≡ true
   unfolding tallyFits
   tally-fits f l =
-      let k = kept′ .flow-in-state f l in
-      rw (k .bucket-fits, le-leb (waitingOf b f) mostWaiting (k .waiting-most), le-leb (enteredOf b f) (b .clock) (k .entered-most))
+      let n = flow-in-state p b k f l in
+      rw (n .bucket-fits, le-leb (waitingOf b f) mostWaiting (n .waiting-most), le-leb (enteredOf b f) (b .clock) (n .entered-most))
 
   flow-fits : (f : ℕ) → f < length (p .flows) → flowFits w f ≡ true
   unfolding flowFits
   flow-fits f l =
-      rw (flow-is f l, tally-is f l, sx-is, sy-is, clock-is, numbers-fit (p .sx) (p .sy) (flowAt p f) (ok .flow-ok f l), tally-fits f l)
+      rw (flow-is f l, tally-is f l, sx-is, sy-is, clock-is, numbers-fit (p .sx) (p .sy) (flowAt p f) (k .lawful .plan .flow-ok f l), tally-fits f l)
 
   -- a register that stands at its place
   register-fits : (place : Place) (at : ℕ) → Stands 0 w at (registerWords (registerOf b place)) → registerFits w place at ≡ true
@@ -138,8 +140,8 @@ module _ (p : Plan) (ok : PlanOk p) (b : Book) (ds : List Delivery) (kept′ : P
       by-lines [] inside st = rw (st .same 0 (omega arith), st .same 1 (omega arith), st .same 2 (omega arith), st .same 3 (omega arith))
       by-lines (l ∷ ls) inside st =
           let m = inside l (here refl) in
-          let below = kept′ .known l (m .0) in
-          let k = in-register p b l place (l .stage) (m .1) (kept′ .in-state l (m .0)) in
+          let below = k .lawful .traced .known l (m .0) in
+          let n = in-register p b l place (l .stage) (m .1) (in-state p b k l (m .0)) in
           let entered = ap (λ (t : Tally). t .entered) (tally-is (l .flow) below) in
           rw (
             count-is,
@@ -149,10 +151,10 @@ module _ (p : Plan) (ok : PlanOk p) (b : Book) (ds : List Delivery) (kept′ : P
             sx-is,
             sy-is,
             lt-ltb (l .flow) (length (p .flows)) below,
-            le-leb 1 (l .serial) (k .least),
-            le-leb (l .serial) (enteredOf b (l .flow)) (k .most),
-            lt-ltb (entryOf (l .stage)) (b .clock) (k .before),
-            k .in-place,
+            le-leb 1 (l .serial) (n .least),
+            le-leb (l .serial) (enteredOf b (l .flow)) (n .most),
+            lt-ltb (entryOf (l .stage)) (b .clock) (n .before),
+            n .in-place,
           )
 
   cell-fits : (x y : ℕ) → x < p .sx → y < p .sy → cellFits w x y ≡ true

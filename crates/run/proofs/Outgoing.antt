@@ -24,14 +24,15 @@ use Rattle.flow.specs.Plan.{Plan, flowAt, FlowOk}
 use Rattle.book.specs.Line.{Place, W, N, columnOf, rowOf, samePlace, Stage, waiting, placed, left, Line, standsIn, isWaiting, entryOf}
 use Rattle.book.specs.Book.{Book}
 use Rattle.book.specs.Cycle.{samePort, westTurns, deflects, deflected, isOpen, enters, lowest, moveStage, leaves, leavesBy, move}
-use Rattle.book.proofs.Moves.{goes, moved-entry}
+use Rattle.book.proofs.Moves.{goes, sent-entry, goes-enters}
 use Rattle.book.proofs.Entries.{entering-ready}
 use Rattle.book.proofs.Traced.{line-ok}
 use Rattle.state.specs.declared.Register.{Register}
 use Rattle.state.specs.declared.Register.the-variants.{Empty, Packet}
 use Rattle.cycle.specs.Router as Router
+use Rattle.book.proofs.Kept.{Kept}
 use Rattle.run.specs.View.{packetOf, holding, placedIn, registerOf}
-use Rattle.run.proofs.View.{Orderly, line-turns}
+use Rattle.run.proofs.View.{line-turns}
 use Rattle.run.proofs.Sends.{atPort}
 
 -- the lines that the router in column x and row y sends by port o
@@ -66,7 +67,7 @@ module _ (p : Plan) (b : Book) (l : Line) where
   stage-moves : (at : Place) (s : Stage) → standsIn at s ≡ true
       → (deflected p b s ≡ deflects p b at) × (entryOf (moveStage p b l s) ≡ entryOf s)
   stage-moves at waiting e = absurd (false≢true e)
-  stage-moves at (placed e′ at′) e = (place-same p b at at′ e, moved-entry p b l (placed e′ at′) refl)
+  stage-moves at (placed e′ at′) e = (place-same p b at at′ e, sent-entry p _ _ _ _ _ _)
   stage-moves at (left e′ t x y) e = absurd (false≢true e)
 
   onward-is : (flow serial entry D : ℕ) (d : Bool) → Packet flow serial entry (D + one d) ≡ onward d (Packet flow serial entry D)
@@ -117,7 +118,7 @@ module _ (p : Plan) (b : Book) (x y : ℕ) (o : Port) where
       record {
         going = h .0;
         waits = g .0;
-        enter = Cases.and-true (enters p b (l .flow)) (lowest b l) (g .1) .0;
+        enter = goes-enters p b l (h .0);
         column = eqb-true _ _ (v .0);
         row = eqb-true _ _ (v .1);
         port = port-same _ _ (u .1);

@@ -25,8 +25,9 @@ use Rattle.state.specs.declared.Register.the-variants.{Empty, Packet}
 use Rattle.cycle.specs.Router.{isEmpty, firstOf, sentEast, sentSouth}
 use Rattle.cycle.specs.Entry.{clientSends}
 use Rattle.cycle.specs.Step.{eastward, southward}
+use Rattle.book.proofs.Kept.{Kept}
 use Rattle.run.specs.View.{holding, placedIn, registerOf, bookState}
-use Rattle.run.proofs.View.{Orderly, cell-at, empty-register, west-turns, line-turns}
+use Rattle.run.proofs.View.{cell-at, empty-register, west-turns, line-turns}
 use Rattle.run.proofs.Outgoing.{outgoing, entersBy, onward, network, closed, split}
 use Rattle.run.proofs.Client.{entrant}
 
@@ -42,7 +43,7 @@ first-empty : (r c : Register) → isEmpty r ≡ true → firstOf r c ≡ c
 first-empty Empty c e = refl
 first-empty (Packet flow serial entry deflections) c e = absurd (false≢true e)
 
-module _ (p : Plan) (b : Book) (ord : Orderly p b) (x y : ℕ) where
+module _ (p : Plan) (b : Book) (ord : Kept p b) (x y : ℕ) where
   -- W is full where it goes S
   turning-full : westTurns p b x y ≡ true → full b (W x y) ≡ true
   unfolding westTurns

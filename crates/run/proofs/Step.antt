@@ -24,7 +24,7 @@ use Rattle.bucket.specs.Regulator.{fullBucket, afterCycle}
 use Rattle.book.specs.Line.{W, N, Stage, Line, isWaiting}
 use Rattle.book.specs.Book.{Book, bucketAt, ofFlow, waitsFor, waitingOf, enteredOf}
 use Rattle.book.specs.Cycle.{enters, lowest, leavesBy, move, stepped}
-use Rattle.book.proofs.Moves.{goes, moved-waits}
+use Rattle.book.proofs.Moves.{goes, Turn, keeps, stays, comes, turn}
 use Rattle.book.proofs.Queue.{goes-count, entered-step}
 use Rattle.book.proofs.Traced.{line-ok}
 use Rattle.book.proofs.Outputs.{one-output}
@@ -34,8 +34,9 @@ use Rattle.state.specs.declared.Tally.{Tally}
 use Rattle.state.specs.State.{State}
 use Rattle.cycle.specs.Router.{atHome}
 use Rattle.cycle.specs.Step.{eastward, southward, exits, nextCell, nextTally, stepState}
+use Rattle.book.proofs.Kept.{Kept}
 use Rattle.run.specs.View.{packetOf, holding, placedIn, registerOf, cellOf, tallyOf, bookState}
-use Rattle.run.proofs.View.{Orderly, tally-at}
+use Rattle.run.proofs.View.{tally-at}
 use Rattle.run.proofs.Entry.{enters-same}
 use Rattle.run.proofs.Sends.{Tells, isHome, moved, east-tells, north-tells}
 use Rattle.run.proofs.Outgoing.{outgoing}
@@ -45,7 +46,7 @@ keep-all : {A : Type 0} (l : List A) → keep (λ x. true) l ≡ l
 keep-all [] = refl
 keep-all (x ∷ l) = rw (keep-all l)
 
-module _ (p : Plan) (b : Book) (ord : Orderly p b) where
+module _ (p : Plan) (b : Book) (ord : Kept p b) where
   -- the lines with a given new stage are those that were sent there
   pub new-lines : (x y : ℕ) (o : Port) (t : Stage → Bool) (h : Flow → Bool) → Tells p (b .clock) x y o t h
       → keep (λ (l : Line). t (l .stage)) (map (move p b) (b .lines)) ≡ map (move p b) (keep (λ (l : Line). h (flowAt p (l .flow))) (outgoing p b x y o))
@@ -53,7 +54,7 @@ module _ (p : Plan) (b : Book) (ord : Orderly p b) where
       keep-map (λ (l : Line). t (l .stage)) (move p b) (b .lines)
       ∙ ap (map (move p b))
       (keep-same _ (λ l. leavesBy p b x y o l && h (flowAt p (l .flow))) (b .lines)
-      (λ l m. moved p b x y o t h k l (l .D) (l .stage) (line-ok p (ord .plan-ok) b (ord .traced) l m) (ord .traced .sound l m))
+      (λ l m. moved p b x y o t h k l (l .D) (l .stage) (line-ok p (ord .lawful .plan) b (ord .lawful .traced) l m) (ord .lawful .traced .sound l m))
       ∙ keep-both (leavesBy p b x y o) (λ l. h (flowAt p (l .flow))) (b .lines))
 
   module _ (x y : ℕ) (lx : x < p .sx) (ly : y < p .sy) where
@@ -67,7 +68,7 @@ module _ (p : Plan) (b : Book) (ord : Orderly p b) where
     pub southbound : ((outgoing p b x y South ≡ []) × (southward (bookState p b) x y ≡ Empty)) ⊎ ((l : Line) × Southbound l)
     southbound =
         let s = south p b ord x y lx ly in
-        let single = one-output p b x y (ord .apart) (ord .queued) South in
+        let single = one-output p b x y (ord .apart) (ord .lawful .queued) South in
         elim (few (outgoing p b x y South) (omega (arith, length-keep (leavesBy p b x y South) (b .lines)))) [
           | inl none ↦ inl (none, s ∙ rw none)
           | inr some ↦
@@ -108,15 +109,14 @@ module _ (p : Plan) (b : Book) (ord : Orderly p b) where
   -- a flow that enters has one waiting line less
   waiting-step : (f : ℕ) → waitingOf b f ≡ waitingOf (stepped p b) f + one (enters p b f)
   waiting-step f =
-      count-sum (waitsFor f) (λ l. waitsFor f (move p b l)) (λ l. ofFlow f l && goes p b l) (b .lines)
-      (λ l m. rw (moved-waits p b l (l .stage)) (sums (ofFlow f l) (isWaiting (l .stage)) (enters p b (l .flow) && lowest b l)))
-      ∙ rw (← (count-map (waitsFor f) (move p b) (b .lines)), goes-count b (ord .queued) p f)
+      count-sum (waitsFor f) (λ l. waitsFor f (move p b l)) (λ l. ofFlow f l && goes p b l) (b .lines) (λ l m. sums (ofFlow f l) l (turn p b l))
+      ∙ rw (← (count-map (waitsFor f) (move p b) (b .lines)), goes-count b (ord .lawful .queued) p f)
     where
-      sums : (s w g : Bool) → one (s && w) ≡ one (s && (w && not g)) + one (s && (w && g))
-      sums true true true = refl
-      sums true true false = refl
-      sums true false g = refl
-      sums false w g = refl
+      sums : (s : Bool) (l : Line) → Turn p b l → one (s && isWaiting (l .stage)) ≡ one (s && isWaiting ((move p b l) .stage)) + one (s && goes p b l)
+      sums false l t = refl
+      sums true l (keeps w w′ e g) = rw (g, w, w′)
+      sums true l (stays w w′ g) = rw (g, w, w′)
+      sums true l (comes w w′ e g) = rw (g, w, w′)
 
   -- a flow's tally after the step
   next-tally : (f : ℕ) → f < length (p .flows) → nextTally (bookState p b) f ≡ tallyOf (stepped p b) f
@@ -124,7 +124,7 @@ module _ (p : Plan) (b : Book) (ord : Orderly p b) where
   next-tally f l =
       let φ : Flow = flowAt p f in
       let bucket = getD-tabulate (length (p .flows)) (λ f. afterCycle ((flowAt p f) .burst) ((flowAt p f) .period) (enters p b f) (bucketAt b f)) f (fullBucket 0) l in
-      let entered = entered-step b (ord .queued) p f in
+      let entered = entered-step b (ord .lawful .queued) p f in
       let waits : waitingOf (stepped p b) f ≡ waitingOf b f - one (enters p b f) = omega (arith, waiting-step f) in
       rw (enters-same p b ord f l, tally-at p b f l) (sym (λ i. record { bucket = bucket i; entered = entered i; waiting = waits i }))
 

@@ -12,24 +12,16 @@ use Rattle.laws.proofs.Cases.{test}
 use Rattle.laws.proofs.Bounded.{getD-tabulate}
 use Rattle.laws.proofs.Grid.{getD-grid}
 use Rattle.laws.proofs.Keep.{few, any-both, length-keep, keep-one}
-use Rattle.flow.specs.Plan.{Plan, flowAt, PlanOk}
+use Rattle.flow.specs.Plan.{Plan, flowAt}
 use Rattle.book.specs.Line.{Place, W, N, Line, standsIn}
 use Rattle.book.specs.Book.{Book}
 use Rattle.book.specs.Cycle.{full, turns, westTurns}
-use Rattle.book.proofs.Queue.{Queued}
-use Rattle.book.proofs.Traced.{Traced}
+use Rattle.book.proofs.Outputs.{Apart}
 use Rattle.state.specs.declared.Register.{Register}
 use Rattle.state.specs.declared.Register.the-variants.{Empty, Packet}
 use Rattle.state.specs.State.{tallyAt, cellAt}
 use Rattle.cycle.specs.Router.{isEmpty, turnsSouth}
 use Rattle.run.specs.View.{packetOf, holding, placedIn, registerOf, cellOf, tallyOf, bookState}
-
--- what the book has kept when a call comes
-pub record Orderly (p : Plan) (b : Book) : Type 0 where
-  pub plan-ok : PlanOk p
-  pub traced : Traced p b
-  pub queued : Queued b
-  pub apart : (at : Place) → count (placedIn at) (b .lines) ≤ 1
 
 module _ (p : Plan) (b : Book) where
   pub tally-at : (f : ℕ) → f < length (p .flows) → tallyAt (bookState p b) f ≡ tallyOf b f
@@ -49,7 +41,7 @@ module _ (p : Plan) (b : Book) where
       empty [] = refl
       empty (l ∷ ls) = elim (test (placedIn at l)) [ inl e ↦ rw e | inr e ↦ rw e (empty ls) ]
 
-module _ (p : Plan) (b : Book) (apart : (at : Place) → count (placedIn at) (b .lines) ≤ 1) (x y : ℕ) where
+module _ (p : Plan) (b : Book) (apart : Apart b) (x y : ℕ) where
   -- W goes S
   pub west-turns : turnsSouth p x (registerOf b (W x y)) ≡ westTurns p b x y
   unfolding turnsSouth registerOf westTurns
