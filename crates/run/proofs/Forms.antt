@@ -170,10 +170,12 @@ module _ (p : Plan) (b : Book) (k : Kept p b) (w : List ℕ) (h : Stands 0 w 0 (
       rw (count-is, sx-is, sy-is, all-intro (flowFits w) (length (p .flows)) flow-fits)
       (all-intro (λ y. allBelow (p .sx) (λ x. cellFits w x y)) (p .sy) (λ y ly. all-intro (λ x. cellFits w x y) (p .sx) (λ x lx. cell-fits x y lx ly)))
 
+  pub size-is : sizeIn w ≡ planSize p
+  size-is = rw (count-is, sx-is, sy-is)
+
   pub forms-state : stateNumber w ≡ 0
   unfolding stateNumber bookState
   forms-state =
-      let size : sizeIn w ≡ planSize p = rw (count-is, sx-is, sy-is) in
       let long = h .fits in
       let words = length-words (bookState p b) in
-      rw (le-ltb (length w) headerSize (omega arith), header-fits, size, le-ltb (length w) (planSize p) (omega arith), rest-fits)
+      rw (le-ltb (length w) headerSize (omega arith), header-fits, size-is, le-ltb (length w) (planSize p) (omega arith), rest-fits)

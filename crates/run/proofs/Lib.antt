@@ -9,3 +9,4 @@ pub mod Step
 pub mod Delivery
 pub mod Offer
 pub mod Forms
+pub mod Memory
