@@ -35,7 +35,7 @@ left-exit c x y (placed e′ at) e = absurd (false≢true e)
 left-exit c x y (left e′ t x′ y′) e =
     eqb-true t c (Cases.and-true (eqb t c) (eqb x x′) (Cases.and-true (eqb t c && eqb x x′) (eqb y y′) e .0) .0)
 
-words-append : (d e : List Delivery) → wordsOf (d ++ e) ≡ wordsOf d ++ wordsOf e
+pub words-append : (d e : List Delivery) → wordsOf (d ++ e) ≡ wordsOf d ++ wordsOf e
 words-append [] e = refl
 words-append (x ∷ d) e = rw (words-append d e)
 

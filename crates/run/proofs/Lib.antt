@@ -10,3 +10,5 @@ pub mod Delivery
 pub mod Offer
 pub mod Forms
 pub mod Memory
+pub mod Calls
+pub mod Reset
