@@ -12,3 +12,4 @@ pub mod Forms
 pub mod Memory
 pub mod Calls
 pub mod Reset
+pub mod List
