@@ -34,8 +34,11 @@ module _ (p : Plan) (b : Book) where
   pub ready-parts : (f : ℕ) → ready p b f ≡ true → Ready f
   unfolding ready
   ready-parts f e =
-      let h = and-true (any (waitsFor f) (b .lines) && ltb 0 ((bucketAt b f) .tokens)) (isOpen p b ((flowAt p f) .xs) ((flowAt p f) .ys) (portOf (p .sx) (flowAt p f))) e in
-      let k = and-true (any (waitsFor f) (b .lines)) (ltb 0 ((bucketAt b f) .tokens)) (h .0) in
+      let φ : Flow = flowAt p f in
+      let waits : Bool = any (waitsFor f) (b .lines) in
+      let token : Bool = ltb 0 ((bucketAt b f) .tokens) in
+      let h = and-true (waits && token) (isOpen p b (φ .xs) (φ .ys) (portOf (p .sx) φ)) e in
+      let k = and-true waits token (h .0) in
       record { waits = k .0; token = ltb-true _ _ (k .1); opened = h .1 }
 
   pub parts-ready : (f : ℕ) → Ready f → ready p b f ≡ true
@@ -57,7 +60,8 @@ module _ (p : Plan) (b : Book) where
       false≢true (sym (none-at (rival f) f first g l) ∙ rw (same, r))
 
   -- of a client with a ready flow some flow enters
-  pub some-enters : (f : ℕ) → ready p b f ≡ true → enters p b f ≡ true ⊎ ((g : ℕ) × (g < f) × (sameClient (flowAt p f) (flowAt p g) ≡ true) × (enters p b g ≡ true))
+  pub some-enters : (f : ℕ) → ready p b f ≡ true
+      → (enters p b f ≡ true) ⊎ ((g : ℕ) × (g < f) × (sameClient (flowAt p f) (flowAt p g) ≡ true) × (enters p b g ≡ true))
   unfolding enters
   some-enters f r =
       elim (test (anyBelow f (rival f))) [

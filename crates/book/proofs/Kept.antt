@@ -131,7 +131,8 @@ module _ (p : Plan) where
       → count (gone r) (runFrom p b cs .book .lines) ≡ count (gone r) (b .lines) + count r (runFrom p b cs .delivered)
   delivered-from r [] b k = omega arith
   delivered-from r (c ∷ cs) b k =
-      omega (arith, feed-delivered b k r c, delivered-from r cs (feed p b c .book) (kept-feed b k c), count-append r (feed p b c .delivered) (runFrom p (feed p b c .book) cs .delivered))
+      let later = delivered-from r cs (feed p b c .book) (kept-feed b k c) in
+      omega (arith, feed-delivered b k r c, count-append r (feed p b c .delivered) (runFrom p (feed p b c .book) cs .delivered))
 
   -- after every list from the start
   pub kept-run : PlanOk p → (cs : List Call) → Kept p (run p cs .book)

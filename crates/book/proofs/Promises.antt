@@ -9,7 +9,7 @@ use lib.Dec.{eqb}
 use lib.ListN.{length}
 use Rattle.laws.specs.Count.{count}
 use Rattle.laws.proofs.Cases.{and-true}
-use Rattle.laws.proofs.Count.{any-true, mem-count, count-any, count-mono}
+use Rattle.laws.proofs.Count.{mem-count, count-find, count-mono}
 use Rattle.flow.specs.declared.Flow.{Flow}
 use Rattle.flow.specs.Plan.{Plan, flowAt, FlowOk, PlanOk}
 use Rattle.bucket.proofs.Regulator.{fits}
@@ -104,7 +104,7 @@ module _ (p : Plan) (b : Book) (k : Kept p b) where
     only : (d : Delivery) → Mem d ds → (l : Line) × Mem l (b .lines) × (isLeft (l .stage) ≡ true) × (delivers l d ≡ true)
     only d m =
         let some : 1 ≤ count (gone (sameWords d)) (b .lines) = rw (told (sameWords d)) (mem-count (sameWords d) ds m (same-refl d)) in
-        let l = any-true (gone (sameWords d)) (b .lines) (count-any (gone (sameWords d)) (b .lines) some) in
+        let l = count-find (gone (sameWords d)) (b .lines) some in
         let h = and-true (isLeft (l .0 .stage)) (sameWords d (deliveryOf (l .0))) (l .2) in
         (l .0, l .1, h .0, h .1)
 
