@@ -42,8 +42,8 @@ module _ (p : Plan) (b : Book) (f s : ℕ) where
 
   -- none of them, where that can't be
   none-passed : (g : ℕ) → ((l : Line) → PassedOf g l → ⊥) → count (passedOf g) (b .lines) ≡ 0
-  none-passed g no′ =
-      count-none (passedOf g) (b .lines) (λ l m. elim (test (passedOf g l)) [ inl t ↦ absurd (no′ l (passed-of g l t)) | inr t ↦ t ])
+  none-passed g not-so =
+      count-none (passedOf g) (b .lines) (λ l m. elim (test (passedOf g l)) [ inl t ↦ absurd (not-so l (passed-of g l t)) | inr t ↦ t ])
 
   -- they entered in a window as long as the spread allows
   of-meeting : s < b .clock → (g : ℕ) → Regulated ((flowAt p g) .burst) ((flowAt p g) .period) (bucketAt b g) (b .clock) (span b g)

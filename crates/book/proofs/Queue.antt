@@ -113,7 +113,7 @@ module _ (b : Book) (q : Queued b) where
                 let k = any-true lower (b .lines) h in
                 let parts = and-true (waitsFor (l .flow) (k .0)) (ltb (k .0 .serial) (l .serial)) (k .2) in
                 let waits = and-true (ofFlow (l .flow) (k .0)) (isWaiting (k .0 .stage)) (parts .0) in
-                let lower′ = ltb-true (k .0 .serial) (l .serial) (parts .1) in
+                let below = ltb-true (k .0 .serial) (l .serial) (parts .1) in
                 let same = ap (enteredOf b) (eqb-true (k .0 .flow) (l .flow) (waits .0)) in
                 absurd (omega (arith, waits-past (k .0) (k .1) (waits .1)))
           ]
@@ -156,7 +156,7 @@ module _ (b : Book) (q : Queued b) where
               rw en
               (count-same (λ l. ofFlow f l && goes p b l) (λ l. ofFlow f l && eqb (l .serial) (enteredOf b f + 1)) (b .lines) (λ l m. next l m en)
               ∙ serial-once f (enteredOf b f + 1) (omega arith) (omega (arith, ap (enteredOf b) same, ap (totalOf b) same)))
-          | inr no′ ↦ rw no′ (count-none (λ l. ofFlow f l && goes p b l) (b .lines) (λ l m. none l no′))
+          | inr out ↦ rw out (count-none (λ l. ofFlow f l && goes p b l) (b .lines) (λ l m. none l out))
         ]
       where
         next : (l : Line) → Mem l (b .lines) → enters p b f ≡ true → ofFlow f l && goes p b l ≡ ofFlow f l && eqb (l .serial) (enteredOf b f + 1)
@@ -167,9 +167,9 @@ module _ (b : Book) (q : Queued b) where
             ]
 
         none : (l : Line) → enters p b f ≡ false → ofFlow f l && goes p b l ≡ false
-        none l no′ =
+        none l out =
             elim (ℕ-discrete (l .flow) f) [
-              | yes e ↦ rw (ap (enters p b) e ∙ no′) (simp and-false)
+              | yes e ↦ rw (ap (enters p b) e ∙ out) (simp and-false)
               | no e ↦ rw (ne-eqb (l .flow) f e)
             ]
 

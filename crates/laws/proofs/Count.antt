@@ -36,8 +36,8 @@ module _ {A : Type 0} where
   any-true t (z ∷ l) e = pick (λ d. any-true t l d) (test (t z))
     where
       pick : (any t l ≡ true → (x : A) × Mem x l × (t x ≡ true)) → (t z ≡ true) ⊎ (t z ≡ false) → (x : A) × Mem x (z ∷ l) × (t x ≡ true)
-      pick later (inl yes′) = (z, here refl, yes′)
-      pick later (inr no′) = let n = later (rw no′ at e) in (n .0, there (n .1), n .2)
+      pick later (inl hit) = (z, here refl, hit)
+      pick later (inr miss) = let n = later (rw miss at e) in (n .0, there (n .1), n .2)
 
   pub any-mem : (t : A → Bool) {x : A} (l : List A) → Mem x l → t x ≡ true → any t l ≡ true
   any-mem t (z ∷ l) (here e) h = rw (← e, h)
