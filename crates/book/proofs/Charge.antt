@@ -6,29 +6,47 @@ use mathlib.Core.Logic.{_⊎_, inl, inr, _≢_}
 use mathlib.Core.Path.{_≡_, refl, sym, ap, _∙_}
 use Prim.Native.Nat.{ℕ, suc, _+_, _≤_, _<_}
 use native.Mathlib.Omega.{arith}
-use borrow.Author.Tests.{ne-eqb, eqb-true, not-false}
+use borrow.Author.Tests.{ne-eqb, eqb-true, eqb-false, not-true, not-false}
 use lib.Dec.{ltb, eqb}
 use Rattle.laws.specs.Count.{count, any}
 use Rattle.laws.proofs.Cases.{test, and-true}
-use Rattle.laws.proofs.Count.{any-true, count-any, count-map, count-mono, count-more}
+use Rattle.laws.proofs.Count.{any-true, count-find, count-map, count-mono, count-more}
 use Rattle.flow.specs.declared.Flow.{Flow}
 use Rattle.flow.specs.Offsets.{ΔX, portOf, sameClient}
 use Rattle.flow.specs.Plan.{Plan, flowAt, FlowOk}
 use Rattle.book.specs.Line.{W, N, Stage, waiting, placed, left, Line, isWaiting, standsIn, entryOf}
 use Rattle.book.specs.Book.{Book, bucketAt, ofFlow, waitsFor}
 use Rattle.book.specs.Cycle.{full, turns, westTurns, isOpen, enters, lowest, moveStage, move, stepped}
-use Rattle.book.proofs.Path.{Sound, step-entry}
+use Rattle.book.proofs.Path.{Sound, progress, step-entry}
 use Rattle.book.proofs.Entries.{client-same, parts-ready, some-enters}
 use Rattle.book.proofs.Moves.{goes, sent-waits, sent-entry, Turn, keeps, stays, comes, turn}
 use Rattle.book.proofs.Queue.{goes-count}
 use Rattle.book.proofs.Traced.{line-ok, moved-progress}
 use Rattle.book.proofs.Spans.{Lawful}
-use Rattle.book.proofs.Meetings.{meeting, passed-yes, passed-stays}
+use Rattle.book.proofs.Meetings.{meeting, passedBy, passed-yes, passed-stays}
 use Rattle.book.proofs.Takers.{Takes, Passes, passedAt, placed-passes, away}
 
 -- a line of another flow has passed f's source by clock c, not before cycle s
 abbrev pub passed : Plan → ℕ → (s c : ℕ) → Line → Bool
 passed p f s c l = not (eqb (l .flow) f) && passedAt p (flowAt p f) (flowAt p (l .flow)) s c (l .stage)
+
+-- what such a line is
+pub record HasPassed (p : Plan) (f s c : ℕ) (l : Line) : Type 0 where
+  pub other : l .flow ≢ f
+  pub entered : isWaiting (l .stage) ≡ false
+  pub by-then : passedBy (meeting (p .sx) (p .sy) (flowAt p f) (flowAt p (l .flow))) s c (entryOf (l .stage)) (progress p (flowAt p (l .flow)) (l .stage)) ≡ true
+
+pub has-passed : (p : Plan) (f s c : ℕ) (l : Line) → passed p f s c l ≡ true → HasPassed p f s c l
+has-passed p f s c l t =
+    let φ : Flow = flowAt p f in
+    let ψ : Flow = flowAt p (l .flow) in
+    let a = and-true (not (eqb (l .flow) f)) (passedAt p φ ψ s c (l .stage)) t in
+    let d = and-true (not (isWaiting (l .stage))) (passedBy (meeting (p .sx) (p .sy) φ ψ) s c (entryOf (l .stage)) (progress p ψ (l .stage))) (a .1) in
+    record {
+      other = eqb-false (l .flow) f (not-true (eqb (l .flow) f) (a .0));
+      entered = not-true (isWaiting (l .stage)) (d .0);
+      by-then = d .1;
+    }
 
 turns-some : (p : Plan) (b : Book) (x y : ℕ) → westTurns p b x y ≡ true → any (turns p x y) (b .lines) ≡ true
 unfolding westTurns
@@ -85,7 +103,8 @@ module _ (p : Plan) (b : Book) (law : Lawful p b) (f : ℕ) where
       elim port [ inl east ↦ (xe, ye, rw east tt) | inr south ↦ (xe, ye, rw (south .0) (xe ∙ south .1)) ]
   west-takes z (left e t x y) h port = absurd (false≢true h)
 
-  north-takes : (z : Line) (st : Stage) → standsIn (N (φ .xs) (φ .ys)) st ≡ true → ltb 0 (ΔX (p .sx) φ) ≡ false → westTurns p b (φ .xs) (φ .ys) ≡ false → Takes p b f z st
+  north-takes : (z : Line) (st : Stage) → standsIn (N (φ .xs) (φ .ys)) st ≡ true → ltb 0 (ΔX (p .sx) φ) ≡ false → westTurns p b (φ .xs) (φ .ys) ≡ false
+      → Takes p b f z st
   north-takes z waiting h south clear = absurd (false≢true h)
   north-takes z (placed e (W x y)) h south clear = absurd (false≢true h)
   north-takes z (placed e (N x y)) h south clear =
@@ -133,27 +152,27 @@ module _ (p : Plan) (b : Book) (law : Lawful p b) (f : ℕ) where
     where
       lower : (g : ℕ) → g < f → sameClient φ (flowAt p g) ≡ true → enters p b g ≡ true → Blocker
       lower g below same en =
-          let z = any-true (λ l. ofFlow g l && goes p b l) (b .lines) (count-any (λ l. ofFlow g l && goes p b l) (b .lines) (rw (goes-count b (law .queued) p g, en) (omega arith))) in
+          let z = count-find (λ l. ofFlow g l && goes p b l) (b .lines) (rw (goes-count b (law .queued) p g, en) (omega arith)) in
           let k = and-true (ofFlow g (z .0)) (goes p b (z .0)) (z .2) in
           let own = eqb-true (z .0 .flow) g (k .0) in
           (z .0, z .1, goes-takes (z .0) (z .0 .stage) (k .1) (ap (λ (h : ℕ). sameClient φ (flowAt p h)) own ∙ same) (omega arith))
 
   -- who has passed stays so
-  passed-step : (s : ℕ) (l : Line) → Mem l (b .lines) → Turn p b l → passed p f s (b .clock) l ≡ true → passed p f s (b .clock + 1) (move p b l) ≡ true
-  passed-step s l m t h = step t (and-true (not (eqb (l .flow) f)) (passedAt p φ (flowAt p (l .flow)) s (b .clock) (l .stage)) h)
+  passed-step : (s : ℕ) (l : Line) → Mem l (b .lines) → passed p f s (b .clock) l ≡ true → passed p f s (b .clock + 1) (move p b l) ≡ true
+  passed-step s l m t = step (has-passed p f s (b .clock) l t) (turn p b l)
     where
-      step : Turn p b l → (not (eqb (l .flow) f) ≡ true) × (passedAt p φ (flowAt p (l .flow)) s (b .clock) (l .stage) ≡ true) → passed p f s (b .clock + 1) (move p b l) ≡ true
-      step (keeps w w′ e g) k =
-          rw (k .0, w′, e)
-          (passed-stays (meeting (p .sx) (p .sy) φ (flowAt p (l .flow))) s (b .clock) (b .clock + 1) (entryOf (l .stage)) _ _ (omega arith)
-          (moved-progress p b l (line-ok p (law .plan) b (law .traced) l m) (l .D) (l .stage) (law .traced .sound l m)) (rw w at (k .1)))
-      step (stays w w′ g) k = absurd (false≢true (rw w at (k .1)))
-      step (comes w w′ e g) k = absurd (false≢true (rw w at (k .1)))
+      step : HasPassed p f s (b .clock) l → Turn p b l → passed p f s (b .clock + 1) (move p b l) ≡ true
+      step h (keeps w w′ e g) =
+          let more = moved-progress p b l (line-ok p (law .plan) b (law .traced) l m) (l .D) (l .stage) (law .traced .sound l m) in
+          rw (ne-eqb (l .flow) f (h .other), w′, e)
+          (passed-stays (meeting (p .sx) (p .sy) φ (flowAt p (l .flow))) s (b .clock) (b .clock + 1) (entryOf (l .stage)) _ _ (omega arith) more (h .by-then))
+      step h (stays w w′ g) = absurd (false≢true (sym (h .entered) ∙ w))
+      step h (comes w w′ e g) = absurd (false≢true (sym (h .entered) ∙ w))
 
   pub passed-more : (s : ℕ) → count (passed p f s (b .clock)) (b .lines) ≤ count (passed p f s (b .clock + 1)) ((stepped p b) .lines)
   passed-more s =
       rw (count-map (passed p f s (b .clock + 1)) (move p b) (b .lines))
-      (count-mono (passed p f s (b .clock)) (λ l. passed p f s (b .clock + 1) (move p b l)) (b .lines) (λ l m. passed-step s l m (turn p b l)))
+      (count-mono (passed p f s (b .clock)) (λ l. passed p f s (b .clock + 1) (move p b l)) (b .lines) (passed-step s))
 
   -- the charging lemma: f waits with a token and doesn't enter
   pub charge : (s : ℕ) → s ≤ b .clock → any (waitsFor f) (b .lines) ≡ true → 1 ≤ (bucketAt b f) .tokens → enters p b f ≡ false
@@ -165,5 +184,5 @@ module _ (p : Plan) (b : Book) (law : Lawful p b) (f : ℕ) where
       let other = ne-eqb (z .0 .flow) f (takes-other (z .0) okz (z .0 .D) (z .0 .stage) h (z .2)) in
       let pass = takes-passes s now (z .0) okz (z .0 .D) (z .0 .stage) h (z .2) in
       rw (count-map (passed p f s (b .clock + 1)) (move p b) (b .lines))
-      (count-more (passed p f s (b .clock)) (λ l. passed p f s (b .clock + 1) (move p b l)) (b .lines) (λ l m. passed-step s l m (turn p b l)) (z .0) (z .1)
+      (count-more (passed p f s (b .clock)) (λ l. passed p f s (b .clock + 1) (move p b l)) (b .lines) (passed-step s) (z .0) (z .1)
       (rw other (pass .before)) (rw other (pass .after)))

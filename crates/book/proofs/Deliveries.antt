@@ -10,7 +10,7 @@ use native.Mathlib.Decide.{ℕ-discrete}
 use native.Mathlib.Omega.{arith}
 use borrow.Author.Tests.{eq-eqb, ne-eqb}
 use lib.Dec.{eqb}
-use Rattle.laws.specs.Count.{one, count}
+use Rattle.laws.specs.Count.{one, count, keep, joinBelow}
 use Rattle.laws.proofs.Cases.{test}
 use Rattle.laws.proofs.Sum.{sum-same}
 use Rattle.laws.proofs.Count.{count-map, count-same, count-sum, count-keep, count-join, count-split}
@@ -62,11 +62,25 @@ exits-count : (p : Plan) (c : ℕ) (ls : List Line) → ((l : Line) → Mem l ls
     → (t : Line → Bool) → count t (exitsOf p c ls) ≡ count (λ l. leftIn c (l .stage) && t l) ls
 exits-count p c ls on t =
     count-join t (p .sy) _
-    ∙ sum-same _ _ (p .sy) (λ y h.
-    count-join t (p .sx) _
-    ∙ sum-same _ _ (p .sx) (λ x k. count-keep t (λ l. leftAt c x y (l .stage)) ls ∙ count-same (λ l. leftAt c x y (l .stage) && t l) (λ l. eqb (columnLeft (l .stage)) x && (eqb (rowLeft (l .stage)) y && (leftIn c (l .stage) && t l))) ls (λ l m. left-at c x y (t l) (l .stage)))
-    ∙ sym (count-split (λ l. eqb (rowLeft (l .stage)) y && (leftIn c (l .stage) && t l)) (λ l. columnLeft (l .stage)) (p .sx) ls (λ l m e. on l m .0)))
-    ∙ sym (count-split (λ l. leftIn c (l .stage) && t l) (λ l. rowLeft (l .stage)) (p .sy) ls (λ l m e. on l m .1))
+    ∙ sum-same _ _ (p .sy) (λ y h. in-row y)
+    ∙ sym (count-split now (λ l. rowLeft (l .stage)) (p .sy) ls (λ l m e. on l m .1))
+  where
+    now : Line → Bool
+    now l = leftIn c (l .stage) && t l
+
+    at : (x y : ℕ) → Line → Bool
+    at x y l = eqb (columnLeft (l .stage)) x && (eqb (rowLeft (l .stage)) y && now l)
+
+    in-column : (x y : ℕ) → count t (keep (λ l. leftAt c x y (l .stage)) ls) ≡ count (at x y) ls
+    in-column x y =
+        count-keep t (λ l. leftAt c x y (l .stage)) ls
+        ∙ count-same (λ l. leftAt c x y (l .stage) && t l) (at x y) ls (λ l m. left-at c x y (t l) (l .stage))
+
+    in-row : (y : ℕ) → count t (joinBelow (p .sx) (λ x. keep (λ l. leftAt c x y (l .stage)) ls)) ≡ count (λ l. eqb (rowLeft (l .stage)) y && now l) ls
+    in-row y =
+        count-join t (p .sx) _
+        ∙ sum-same _ _ (p .sx) (λ x k. in-column x y)
+        ∙ sym (count-split (λ l. eqb (rowLeft (l .stage)) y && now l) (λ l. columnLeft (l .stage)) (p .sx) ls (λ l m e. on l m .0))
 
 module _ (p : Plan) (f : Flow) (c e x y : ℕ) where
   sent-left : (o : Port) → isLeft (sent p f c e x y o) ≡ leftIn c (sent p f c e x y o)
@@ -79,7 +93,8 @@ abbrev pub gone : (Delivery → Bool) → Line → Bool
 gone r l = isLeft (l .stage) && r (deliveryOf l)
 
 -- its router is on the torus
-left-on : (p : Plan) → PlanOk p → (f : Flow) → FlowOk (p .sx) (p .sy) f → (c D : ℕ) (s : Stage) → Sound p f c D s → (columnLeft s < p .sx) × (rowLeft s < p .sy)
+left-on : (p : Plan) → PlanOk p → (f : Flow) → FlowOk (p .sx) (p .sy) f → (c D : ℕ) (s : Stage) → Sound p f c D s
+    → (columnLeft s < p .sx) × (rowLeft s < p .sy)
 left-on p ok f k c D waiting h = (ok .sx-least, ok .sy-least)
 left-on p ok f k c D (placed e at) h = (ok .sx-least, ok .sy-least)
 left-on p ok f k c D (left e t x y) h = (rw (h .column) (k .xd-on), rw (h .row) (k .yd-on))

@@ -3,7 +3,7 @@ use mathlib.Core.Bool.{Bool, true, false, not, _&&_, false≢true}
 use mathlib.Core.Logic.{_⊎_, inl, inr}
 use mathlib.Core.Path.{_≡_, sym, _∙_}
 use Prim.Native.Nat.{ℕ, _≤_, _<_}
-use native.Mathlib.Decide.{ℕ-discrete, decLt}
+use native.Mathlib.Decide.{decLt}
 use native.Mathlib.Omega.{arith}
 use borrow.Author.Tests.{lt-ltb, ltb-true, eq-eqb, eqb-true, not-true}
 use lib.Dec.{ltb, eqb}
@@ -34,8 +34,11 @@ module _ (p : Plan) (b : Book) where
   pub ready-parts : (f : ℕ) → ready p b f ≡ true → Ready f
   unfolding ready
   ready-parts f e =
-      let h = and-true (any (waitsFor f) (b .lines) && ltb 0 ((bucketAt b f) .tokens)) (isOpen p b ((flowAt p f) .xs) ((flowAt p f) .ys) (portOf (p .sx) (flowAt p f))) e in
-      let k = and-true (any (waitsFor f) (b .lines)) (ltb 0 ((bucketAt b f) .tokens)) (h .0) in
+      let φ : Flow = flowAt p f in
+      let waits : Bool = any (waitsFor f) (b .lines) in
+      let token : Bool = ltb 0 ((bucketAt b f) .tokens) in
+      let h = and-true (waits && token) (isOpen p b (φ .xs) (φ .ys) (portOf (p .sx) φ)) e in
+      let k = and-true waits token (h .0) in
       record { waits = k .0; token = ltb-true _ _ (k .1); opened = h .1 }
 
   pub parts-ready : (f : ℕ) → Ready f → ready p b f ≡ true
@@ -50,14 +53,19 @@ module _ (p : Plan) (b : Book) where
   unfolding enters
   entering-ready f e = ready-parts f (and-true (ready p b f) (not (anyBelow f (rival f))) e .0)
 
-  entering-first : (f : ℕ) → enters p b f ≡ true → (g : ℕ) → g < f → sameClient (flowAt p f) (flowAt p g) ≡ true → ready p b g ≡ true → ⊥
+  -- no lower-numbered flow of the client is ready
+  pub lowest-enters : (f g : ℕ) → enters p b f ≡ true → ready p b g ≡ true → sameClient (flowAt p f) (flowAt p g) ≡ true → f ≤ g
   unfolding enters
-  entering-first f e g l same r =
+  lowest-enters f g e r same =
       let first = not-true (anyBelow f (rival f)) (and-true (ready p b f) (not (anyBelow f (rival f))) e .1) in
-      false≢true (sym (none-at (rival f) f first g l) ∙ rw (same, r))
+      elim (decLt g f) [
+        | no l ↦ omega arith
+        | yes l ↦ absurd (false≢true (sym (none-at (rival f) f first g l) ∙ rw (same, r)))
+      ]
 
   -- of a client with a ready flow some flow enters
-  pub some-enters : (f : ℕ) → ready p b f ≡ true → enters p b f ≡ true ⊎ ((g : ℕ) × (g < f) × (sameClient (flowAt p f) (flowAt p g) ≡ true) × (enters p b g ≡ true))
+  pub some-enters : (f : ℕ) → ready p b f ≡ true
+      → (enters p b f ≡ true) ⊎ ((g : ℕ) × (g < f) × (sameClient (flowAt p f) (flowAt p g) ≡ true) × (enters p b g ≡ true))
   unfolding enters
   some-enters f r =
       elim (test (anyBelow f (rival f))) [
@@ -75,10 +83,7 @@ module _ (p : Plan) (b : Book) where
   pub one-enters : (f g : ℕ) → enters p b f ≡ true → enters p b g ≡ true → sameClient (flowAt p f) (flowAt p g) ≡ true → f ≡ g
   one-enters f g e h same =
       let c = client-parts (flowAt p f) (flowAt p g) same in
-      elim (ℕ-discrete f g) [
-        | yes k ↦ k
-        | no k ↦ elim (decLt g f) [
-          | yes l ↦ absurd (entering-first f e g l same (parts-ready g (entering-ready g h)))
-          | no l ↦ absurd (entering-first g h f (omega arith) (client-same (flowAt p g) (flowAt p f) (sym (c .0)) (sym (c .1))) (parts-ready f (entering-ready f e)))
-        ]
-      ]
+      let back = client-same (flowAt p g) (flowAt p f) (sym (c .0)) (sym (c .1)) in
+      let below = lowest-enters f g e (parts-ready g (entering-ready g h)) same in
+      let above = lowest-enters g f h (parts-ready f (entering-ready f e)) back in
+      omega arith

@@ -1,14 +1,14 @@
 -- What passes a flow's source in a window is at most I(t). A window through which a flow waits with a token is no longer than what
 -- passed and the flow's own entries. Rests on Charge, Spans and the windows' definitions.
-use mathlib.Core.Bool.{Bool, true, false, not, _&&_, false≢true}
+use mathlib.Core.Bool.{Bool, true, _&&_, false≢true}
 use mathlib.Core.List.{[], _∷_}
 use mathlib.Core.Logic.{inl, inr}
-use mathlib.Core.Path.{_≡_, refl, sym, ap, _∙_}
+use mathlib.Core.Path.{_≡_, refl, ap, _∙_}
 use Prim.Native.Nat.{ℕ, _+_, _-_, _≤_, _<_}
 use native.Mathlib.Nat.{le-trans}
 use native.Mathlib.Decide.{ℕ-discrete, decLt}
 use native.Mathlib.Omega.{arith}
-use borrow.Author.Tests.{lt-ltb, le-leb, eq-eqb, ne-eqb, eqb-true, not-true}
+use borrow.Author.Tests.{lt-ltb, le-leb, eq-eqb, ne-eqb, eqb-true}
 use lib.Dec.{eqb}
 use lib.ListN.{length}
 use Rattle.laws.specs.Count.{one, count, any}
@@ -18,14 +18,12 @@ use Rattle.laws.proofs.Sum.{sum-mono}
 use Rattle.flow.specs.Plan.{Plan, flowAt}
 use Rattle.bucket.proofs.Regulator.{Regulated, enters-at-most}
 use Rattle.window.specs.Window.{share, shareOf, interference}
-use Rattle.book.specs.Line.{Line, isWaiting, entryOf}
+use Rattle.book.specs.Line.{Line, entryOf}
 use Rattle.book.specs.Book.{Book, bucketAt, ofFlow, waitsFor, offered, offeredLine}
 use Rattle.book.specs.Cycle.{enters, stepped}
-use Rattle.book.proofs.Path.{progress}
 use Rattle.book.proofs.Spans.{span, enteredIn, Lawful, span-offer, span-new}
-use Rattle.book.proofs.Meetings.{Meeting, never, meets, meeting, spreadOf, meeting-conflict, passedBy, passed-parts}
-use Rattle.book.proofs.Takers.{passedAt}
-use Rattle.book.proofs.Charge.{passed, passed-more, charge}
+use Rattle.book.proofs.Meetings.{Meeting, never, meets, meeting, spreadOf, meeting-conflict, passed-parts}
+use Rattle.book.proofs.Charge.{passed, HasPassed, has-passed, passed-more, charge}
 
 module _ (p : Plan) (b : Book) (f s : ℕ) where
   -- the lines of flow g that passed f
@@ -34,42 +32,33 @@ module _ (p : Plan) (b : Book) (f s : ℕ) where
 
   -- what such a line is
   record PassedOf (g : ℕ) (l : Line) : Type 0 where
-    own : ofFlow g l ≡ true
-    entered : isWaiting (l .stage) ≡ false
-    by-then : passedBy (meeting (p .sx) (p .sy) (flowAt p f) (flowAt p g)) s (b .clock) (entryOf (l .stage)) (progress p (flowAt p g) (l .stage)) ≡ true
-    other : g ≡ f → ⊥
+    own : l .flow ≡ g
+    has : HasPassed p f s (b .clock) l
 
   passed-of : (g : ℕ) (l : Line) → passedOf g l ≡ true → PassedOf g l
   passed-of g l t =
       let a = and-true (eqb (l .flow) g) (passed p f s (b .clock) l) t in
-      let same = eqb-true (l .flow) g (a .0) in
-      let c = and-true (not (eqb (l .flow) f)) (passedAt p (flowAt p f) (flowAt p (l .flow)) s (b .clock) (l .stage)) (a .1) in
-      let d = and-true (not (isWaiting (l .stage))) (passedBy (meeting (p .sx) (p .sy) (flowAt p f) (flowAt p (l .flow))) s (b .clock) (entryOf (l .stage)) (progress p (flowAt p (l .flow)) (l .stage))) (c .1) in
-      record {
-        own = a .0;
-        entered = not-true (isWaiting (l .stage)) (d .0);
-        by-then = rw same at (d .1);
-        other = λ e. false≢true (sym (ap not (eq-eqb (l .flow) f (same ∙ e))) ∙ c .0);
-      }
+      record { own = eqb-true (l .flow) g (a .0); has = has-passed p f s (b .clock) l (a .1) }
 
   -- none of them, where that can't be
   none-passed : (g : ℕ) → ((l : Line) → PassedOf g l → ⊥) → count (passedOf g) (b .lines) ≡ 0
-  none-passed g no′ =
-      count-none (passedOf g) (b .lines) (λ l m. elim (test (passedOf g l)) [ inl t ↦ absurd (no′ l (passed-of g l t)) | inr t ↦ t ])
+  none-passed g not-so =
+      count-none (passedOf g) (b .lines) (λ l m. elim (test (passedOf g l)) [ inl t ↦ absurd (not-so l (passed-of g l t)) | inr t ↦ t ])
 
   -- they entered in a window as long as the spread allows
   of-meeting : s < b .clock → (g : ℕ) → Regulated ((flowAt p g) .burst) ((flowAt p g) .period) (bucketAt b g) (b .clock) (span b g)
-      → (m : Meeting) → meeting (p .sx) (p .sy) (flowAt p f) (flowAt p g) ≡ m → count (passedOf g) (b .lines) ≤ share (flowAt p g) (b .clock - s) (spreadOf m)
+      → (m : Meeting) → meeting (p .sx) (p .sy) (flowAt p f) (flowAt p g) ≡ m
+      → count (passedOf g) (b .lines) ≤ share (flowAt p g) (b .clock - s) (spreadOf m)
   unfolding share
   of-meeting late g held never e =
-      omega (arith, none-passed g (λ l h. false≢true (rw e at (h .by-then))))
+      omega (arith, none-passed g (λ l h. false≢true (rw (h .own, e) at (h .has .by-then))))
   of-meeting late g held (meets K J point) e =
       elim (decLt from to) [
         | no l ↦ omega (arith, none-passed g (λ k h. let w = within k h in omega arith))
         | yes l ↦
             le-trans
             (count-mono (passedOf g) (λ k. ofFlow g k && enteredIn from to (k .stage)) (b .lines)
-            (λ k m t. let h = passed-of g k t in let w = within k h in rw (h .own, h .entered, le-leb from (entryOf (k .stage)) (w .0), lt-ltb (entryOf (k .stage)) to (w .1))))
+            (λ k m t. counted k (passed-of g k t)))
             (enters-at-most _ _ (bucketAt b g) (b .clock) (span b g) held from to (b .clock - s - 1 + J) l (omega arith) (omega arith))
       ]
     where
@@ -80,7 +69,12 @@ module _ (p : Plan) (b : Book) (f s : ℕ) where
       to = b .clock - K
 
       within : (k : Line) → PassedOf g k → (from ≤ entryOf (k .stage)) × (entryOf (k .stage) < to)
-      within k h = let w = passed-parts K J point s (b .clock) (entryOf (k .stage)) _ (rw e at (h .by-then)) in omega arith
+      within k h = let w = passed-parts K J point s (b .clock) (entryOf (k .stage)) _ (rw (h .own, e) at (h .has .by-then)) in omega arith
+
+      counted : (k : Line) → PassedOf g k → ofFlow g k && enteredIn from to (k .stage) ≡ true
+      counted k h =
+          let w = within k h in
+          rw (eq-eqb (k .flow) g (h .own), h .has .entered, le-leb from (entryOf (k .stage)) (w .0), lt-ltb (entryOf (k .stage)) to (w .1))
 
   -- no more than flow g's share of I(t)
   of-flow : s < b .clock → (g : ℕ) → Regulated ((flowAt p g) .burst) ((flowAt p g) .period) (bucketAt b g) (b .clock) (span b g)
@@ -88,7 +82,7 @@ module _ (p : Plan) (b : Book) (f s : ℕ) where
   unfolding shareOf
   of-flow late g held =
       elim (ℕ-discrete g f) [
-        | yes own ↦ omega (arith, none-passed g (λ l h. h .other own))
+        | yes own ↦ omega (arith, none-passed g (λ l h. h .has .other (h .own ∙ own)))
         | no other ↦
             rw (ne-eqb g f other, ← (meeting-conflict (p .sx) (p .sy) (flowAt p f) (flowAt p g)))
             (of-meeting late g held (meeting (p .sx) (p .sy) (flowAt p f) (flowAt p g)) refl)

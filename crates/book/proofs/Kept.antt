@@ -42,19 +42,19 @@ pub feed-cases : (p : Plan) (b : Book) (Q : Fed → Type 0)
     → ((f : ℕ) → f < length (p .flows) → waitingOf b f < mostWaiting → Q (accepted p b (offer f)))
     → ((room : ℕ) → b .clock ≢ lastClock → Q (accepted p b (step room))) → (c : Call) → Q (feed p b c)
 unfolding feed refusal
-feed-cases p b Q no′ offers steps (offer f) =
+feed-cases p b Q refuses offers steps (offer f) =
     elim (test (leb (length (p .flows)) f)) [
-      | inl t ↦ rw t (no′ 12)
+      | inl t ↦ rw t (refuses 12)
       | inr t ↦ elim (test (leb mostWaiting (waitingOf b f))) [
-        | inl w ↦ rw (t, w) (no′ 13)
+        | inl w ↦ rw (t, w) (refuses 13)
         | inr w ↦ rw (t, w) (offers f (leb-false _ _ t) (leb-false _ _ w))
       ]
     ]
-feed-cases p b Q no′ offers steps (step room) =
+feed-cases p b Q refuses offers steps (step room) =
     elim (test (ltb room (roomFor p))) [
-      | inl t ↦ rw t (no′ 10)
+      | inl t ↦ rw t (refuses 10)
       | inr t ↦ elim (test (eqb (b .clock) lastClock)) [
-        | inl w ↦ rw (t, w) (no′ 11)
+        | inl w ↦ rw (t, w) (refuses 11)
         | inr w ↦ rw (t, w) (steps room (eqb-false _ _ w))
       ]
     ]
@@ -102,14 +102,14 @@ module _ (p : Plan) where
           entered-most = λ f. omega (arith, entered-step b (k .lawful .queued) p f, one-most (enters p b f), k .entered-most f);
         }
       where
-        waited′ : (f : ℕ) (l : Line) → waitsFor f (move p b l) ≡ true → waitsFor f l ≡ true
-        waited′ f l t =
+        waited-for : (f : ℕ) (l : Line) → waitsFor f (move p b l) ≡ true → waitsFor f l ≡ true
+        waited-for f l t =
             let h = and-true (ofFlow f l) (isWaiting ((move p b l) .stage)) t in rw (h .0) (waited p b l (turn p b l) (h .1))
 
         fewer : (f : ℕ) → waitingOf (stepped p b) f ≤ mostWaiting
         fewer f =
             rw (count-map (waitsFor f) (move p b) (b .lines))
-            (le-trans (count-mono (λ l. waitsFor f (move p b l)) (waitsFor f) (b .lines) (λ l m t. waited′ f l t)) (k .waiting-most f))
+            (le-trans (count-mono (λ l. waitsFor f (move p b l)) (waitsFor f) (b .lines) (λ l m t. waited-for f l t)) (k .waiting-most f))
 
     pub kept-feed : (c : Call) → Kept p (feed p b c .book)
     kept-feed c = feed-cases p b (λ (fed : Fed). Kept p (fed .book)) (λ n. k) kept-offer (λ room early. kept-step early) c
@@ -131,7 +131,8 @@ module _ (p : Plan) where
       → count (gone r) (runFrom p b cs .book .lines) ≡ count (gone r) (b .lines) + count r (runFrom p b cs .delivered)
   delivered-from r [] b k = omega arith
   delivered-from r (c ∷ cs) b k =
-      omega (arith, feed-delivered b k r c, delivered-from r cs (feed p b c .book) (kept-feed b k c), count-append r (feed p b c .delivered) (runFrom p (feed p b c .book) cs .delivered))
+      let later = delivered-from r cs (feed p b c .book) (kept-feed b k c) in
+      omega (arith, feed-delivered b k r c, count-append r (feed p b c .delivered) (runFrom p (feed p b c .book) cs .delivered))
 
   -- after every list from the start
   pub kept-run : PlanOk p → (cs : List Call) → Kept p (run p cs .book)

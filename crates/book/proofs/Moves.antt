@@ -31,9 +31,11 @@ module _ (p : Plan) (f : Flow) (c e x y : ℕ) where
 
 -- what a step does to a line: it keeps its entry, it waits on, or it comes in
 pub data Turn (p : Plan) (b : Book) (l : Line) : Type 0 where
-  keeps : isWaiting (l .stage) ≡ false → isWaiting ((move p b l) .stage) ≡ false → entryOf ((move p b l) .stage) ≡ entryOf (l .stage) → goes p b l ≡ false → Turn p b l
+  keeps : isWaiting (l .stage) ≡ false → isWaiting ((move p b l) .stage) ≡ false → entryOf ((move p b l) .stage) ≡ entryOf (l .stage)
+      → goes p b l ≡ false → Turn p b l
   stays : isWaiting (l .stage) ≡ true → isWaiting ((move p b l) .stage) ≡ true → goes p b l ≡ false → Turn p b l
-  comes : isWaiting (l .stage) ≡ true → isWaiting ((move p b l) .stage) ≡ false → entryOf ((move p b l) .stage) ≡ b .clock → goes p b l ≡ true → Turn p b l
+  comes : isWaiting (l .stage) ≡ true → isWaiting ((move p b l) .stage) ≡ false → entryOf ((move p b l) .stage) ≡ b .clock
+      → goes p b l ≡ true → Turn p b l
 
 module _ (p : Plan) (b : Book) (l : Line) where
   moved-waits : (s : Stage) → isWaiting (moveStage p b l s) ≡ isWaiting s && not (enters p b (l .flow) && lowest b l)

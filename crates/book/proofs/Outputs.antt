@@ -107,7 +107,7 @@ module _ (p : Plan) (b : Book) (x y : ℕ) where
   record Entering (o : Port) (l : Line) : Type 0 where
     waits : isWaiting (l .stage) ≡ true
     entering : enters p b (l .flow) ≡ true
-    lowest′ : lowest b l ≡ true
+    first : lowest b l ≡ true
     column : x ≡ (flowAt p (l .flow)) .xs
     row : y ≡ (flowAt p (l .flow)) .ys
     port : portOf (p .sx) (flowAt p (l .flow)) ≡ o
@@ -123,7 +123,7 @@ module _ (p : Plan) (b : Book) (x y : ℕ) where
       record {
         waits = g .0;
         entering = e .0;
-        lowest′ = e .1;
+        first = e .1;
         column = eqb-true x (φ .xs) (s .0);
         row = eqb-true y (φ .ys) (s .1);
         port = port-same (portOf (p .sx) φ) o (c .1);
@@ -153,7 +153,7 @@ module _ (p : Plan) (b : Book) (x y : ℕ) where
       same z h l k =
           let own = one-enters p b (l .flow) (z .flow) (k .entering) (h .entering)
           (client-same (flowAt p (l .flow)) (flowAt p (z .flow)) (sym (k .column) ∙ h .column) (sym (k .row) ∙ h .row)) in
-          rw (eq-eqb (l .flow) (z .flow) own, k .waits, k .entering, k .lowest′)
+          rw (eq-eqb (l .flow) (z .flow) own, k .waits, k .entering, k .first)
 
   west-client : (o : Port) → any (west o) (b .lines) ≡ true → isOpen p b x y o ≡ true → ⊥
   west-client East w c =
@@ -187,7 +187,8 @@ module _ (p : Plan) (b : Book) (x y : ℕ) where
         apart (W x y),
         mem-count (turns p x y) (b .lines) (t .1) (t .2),
         any-count (west East) (b .lines) w,
-        count-sum (λ l. standsIn (W x y) (l .stage)) (turns p x y) (west East) (b .lines) (λ l m. parts (standsIn (W x y) (l .stage)) (eqb x ((flowAt p (l .flow)) .xd))),
+        count-sum (λ l. standsIn (W x y) (l .stage)) (turns p x y) (west East) (b .lines)
+            (λ l m. parts (standsIn (W x y) (l .stage)) (eqb x ((flowAt p (l .flow)) .xd))),
       )
     where
       parts : (s t : Bool) → one s ≡ one (s && t) + one (s && samePort (cond t South East) East)
@@ -210,16 +211,20 @@ module _ (p : Plan) (b : Book) (x y : ℕ) where
       let n = le-trans (count-mono (north o) (λ l. standsIn (N x y) (l .stage)) (b .lines) (λ l m t. and-true (standsIn (N x y) (l .stage)) _ t .0)) (apart (N x y)) in
       let c = client-one o q in
       elim (test (any (west o) (b .lines))) [
-        | inl west′ ↦ omega (
+        | inl some ↦ omega (
           arith,
-          none-count (north o) (b .lines) (never (λ t. west-north o apart west′ t)),
-          none-count (client o) (b .lines) (never (λ t. west-client o west′ (client-open o t))),
+          none-count (north o) (b .lines) (never (λ t. west-north o apart some t)),
+          none-count (client o) (b .lines) (never (λ t. west-client o some (client-open o t))),
         )
-        | inr west′ ↦ elim (test (any (north o) (b .lines))) [
-          | inl north′ ↦ omega (arith, none-count (west o) (b .lines) west′, none-count (client o) (b .lines) (never (λ t. north-client o north′ (client-open o t))))
-          | inr north′ ↦ omega (arith, none-count (west o) (b .lines) west′, none-count (north o) (b .lines) north′)
+        | inr none ↦ elim (test (any (north o) (b .lines))) [
+          | inl other ↦ omega (
+            arith,
+            none-count (west o) (b .lines) none,
+            none-count (client o) (b .lines) (never (λ t. north-client o other (client-open o t))),
+          )
+          | inr no-other ↦ omega (arith, none-count (west o) (b .lines) none, none-count (north o) (b .lines) no-other)
         ]
       ]
     where
       never : {t : Bool} → (t ≡ true → ⊥) → t ≡ false
-      never {t} no′ = elim (test t) [ inl e ↦ absurd (no′ e) | inr e ↦ e ]
+      never {t} not-so = elim (test t) [ inl e ↦ absurd (not-so e) | inr e ↦ e ]

@@ -74,14 +74,16 @@ module _ (p : Plan) (f : ℕ) (in-plan : f < length (p .flows)) (T H : ℕ) (sum
             omega (arith, pace .begun)
 
     -- a line that comes in does so in time
-    timely-step : (l : Line) → Mem l (b .lines) → l .flow ≡ f → Turn p b l → isWaiting ((move p b l) .stage) ≡ false → entryOf ((move p b l) .stage) < l .offer + (l .q + 1) * H
+    timely-step : (l : Line) → Mem l (b .lines) → l .flow ≡ f → Turn p b l → isWaiting ((move p b l) .stage) ≡ false
+        → entryOf ((move p b l) .stage) < l .offer + (l .q + 1) * H
     timely-step l m own (keeps w w′ e g) _ = rw e (pace .timely l m own w)
     timely-step l m own (stays w w′ g) n = absurd (false≢true (sym n ∙ w′))
     timely-step l m own (comes w w′ e g) _ = rw e (waiting-due l m own w)
 
     -- the pace after a step, with a head since cycle `from`
     after : (from : ℕ) → from ≤ b .clock + 1 → Head p (stepped p b) f T from
-        → ((l : Line) → Mem l (b .lines) → l .flow ≡ f → isWaiting (l .stage) ≡ true → from + l .serial * H ≤ l .offer + (l .q + enteredOf (stepped p b) f + 1) * H)
+        → ((l : Line) → Mem l (b .lines) → l .flow ≡ f → isWaiting (l .stage) ≡ true
+        → from + l .serial * H ≤ l .offer + (l .q + enteredOf (stepped p b) f + 1) * H)
         → Pace p (stepped p b) f T H
     after from begun head due =
         record {

@@ -37,7 +37,8 @@ sent-reach p f c e x y East at h = h
 sent-reach p f c e x y South at h = elim (test (eqb x (f .xd) && eqb y (f .yd))) [ inl t ↦ absurd (false≢true (rw t at h)) | inr t ↦ rw t at h ]
 
 -- it is a register of the torus
-reach-on : (p : Plan) (x y : ℕ) (o : Port) → x < p .sx → y < p .sy → (at : Place) → samePlace at (reach p x y o) ≡ true → (columnOf at < p .sx) × (rowOf at < p .sy)
+reach-on : (p : Plan) (x y : ℕ) (o : Port) → x < p .sx → y < p .sy → (at : Place) → samePlace at (reach p x y o) ≡ true
+    → (columnOf at < p .sx) × (rowOf at < p .sy)
 reach-on p x y East l m (W x′ y′) s =
     let t = and-true (eqb x′ (next (p .sx) x)) (eqb y′ y) s in
     (rw (eqb-true x′ (next (p .sx) x) (t .0)) (next-below (p .sx) x l), rw (eqb-true y′ y (t .1)) m)
@@ -48,18 +49,22 @@ reach-on p x y South l m (N x′ y′) s =
     (rw (eqb-true x′ x (t .0)) l, rw (eqb-true y′ (next (p .sy) y) (t .1)) (next-below (p .sy) y m))
 
 -- the one output that leads to a register
+abbrev Only : Plan → Place → (x y : ℕ) → Port → Type 0
+Only p at x y o =
+    (x′ y′ : ℕ) (o′ : Port) → x′ < p .sx → y′ < p .sy → samePlace at (reach p x′ y′ o′) ≡ true → (x′ ≡ x) × (y′ ≡ y) × (o′ ≡ o)
+
 record FedBy (p : Plan) (at : Place) : Type 0 where
   x : ℕ
   y : ℕ
   o : Port
-  only : (x′ y′ : ℕ) (o′ : Port) → x′ < p .sx → y′ < p .sy → samePlace at (reach p x′ y′ o′) ≡ true → (x′ ≡ x) × (y′ ≡ y) × (o′ ≡ o)
+  only : Only p at x y o
 
 fed-by : (p : Plan) (at : Place) → columnOf at < p .sx → rowOf at < p .sy → FedBy p at
 fed-by p (W x y) l m =
     let w = next-of (p .sx) x l in
     record { x = w .0; y = y; o = East; only = only (w .0) (w .1) (w .2) }
   where
-    only : (w : ℕ) → w < p .sx → next (p .sx) w ≡ x → (x′ y′ : ℕ) (o′ : Port) → x′ < p .sx → y′ < p .sy → samePlace (W x y) (reach p x′ y′ o′) ≡ true → (x′ ≡ w) × (y′ ≡ y) × (o′ ≡ East)
+    only : (w : ℕ) → w < p .sx → next (p .sx) w ≡ x → Only p (W x y) w y East
     only w on e x′ y′ East h k s =
         let t = and-true (eqb x (next (p .sx) x′)) (eqb y y′) s in
         (next-one (p .sx) x′ w h on (sym (eqb-true _ _ (t .0)) ∙ sym e), sym (eqb-true _ _ (t .1)), refl)
@@ -68,7 +73,7 @@ fed-by p (N x y) l m =
     let n = next-of (p .sy) y m in
     record { x = x; y = n .0; o = South; only = only (n .0) (n .1) (n .2) }
   where
-    only : (n : ℕ) → n < p .sy → next (p .sy) n ≡ y → (x′ y′ : ℕ) (o′ : Port) → x′ < p .sx → y′ < p .sy → samePlace (N x y) (reach p x′ y′ o′) ≡ true → (x′ ≡ x) × (y′ ≡ n) × (o′ ≡ South)
+    only : (n : ℕ) → n < p .sy → next (p .sy) n ≡ y → Only p (N x y) x n South
     only n on e x′ y′ South h k s =
         let t = and-true (eqb x x′) (eqb y (next (p .sy) y′)) s in
         (sym (eqb-true _ _ (t .0)), next-one (p .sy) y′ n k on (sym (eqb-true _ _ (t .1)) ∙ sym e), refl)
@@ -138,14 +143,18 @@ module _ (p : Plan) (b : Book) (law : Lawful p b) (apart : Apart b) where
       to : (l : Line) → Mem l (b .lines) → there l ≡ true → SentTo p b l (l .stage) at
       to l m t = sent-to p b l (line-ok p (law .plan) b (law .traced) l m) (l .D) (l .stage) (law .traced .sound l m) at t
 
-      same : (l : Line) (x y x′ y′ : ℕ) (o o′ : Port) → (x′ ≡ x) × (y′ ≡ y) × (o′ ≡ o) → leaves p b l x′ y′ o′ (l .stage) ≡ true → leavesBy p b x y o l ≡ true
-      same l x y x′ y′ o o′ e t = rw (e .0, e .1, e .2) at t
+      -- all of them leave by the output that feeds the register
+      through : (fed : FedBy p at) (l : Line) → SentTo p b l (l .stage) at → leavesBy p b (fed .x) (fed .y) (fed .o) l ≡ true
+      through fed l w = same (w .x) (w .y) (w .o) (fed .only (w .x) (w .y) (w .o) (w .column) (w .row) (w .reached)) (w .by-output)
+        where
+          same : (x y : ℕ) (o : Port) → (x ≡ fed .x) × (y ≡ fed .y) × (o ≡ fed .o) → leavesBy p b x y o l ≡ true
+              → leavesBy p b (fed .x) (fed .y) (fed .o) l ≡ true
+          same x y o e t = rw (e .0, e .1, e .2) at t
 
       one-source : FedBy p at → count there (b .lines) ≤ 1
       one-source fed =
           le-trans
-          (count-mono there (leavesBy p b (fed .x) (fed .y) (fed .o)) (b .lines)
-          (λ l m t. let w = to l m t in same l (fed .x) (fed .y) (w .x) (w .y) (fed .o) (w .o) (fed .only (w .x) (w .y) (w .o) (w .column) (w .row) (w .reached)) (w .by-output)))
+          (count-mono there (leavesBy p b (fed .x) (fed .y) (fed .o)) (b .lines) (λ l m t. through fed l (to l m t)))
           (one-output p b (fed .x) (fed .y) apart (law .queued) (fed .o))
 
 pub apart-offer : (b : Book) → Apart b → (f : ℕ) → Apart (offered b f)

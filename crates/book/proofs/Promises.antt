@@ -9,7 +9,7 @@ use lib.Dec.{eqb}
 use lib.ListN.{length}
 use Rattle.laws.specs.Count.{count}
 use Rattle.laws.proofs.Cases.{and-true}
-use Rattle.laws.proofs.Count.{any-true, mem-count, count-any, count-mono}
+use Rattle.laws.proofs.Count.{mem-count, count-find, count-mono}
 use Rattle.flow.specs.declared.Flow.{Flow}
 use Rattle.flow.specs.Plan.{Plan, flowAt, FlowOk, PlanOk}
 use Rattle.bucket.proofs.Regulator.{fits}
@@ -22,6 +22,7 @@ use Rattle.book.specs.Cycle.{Delivery, deliveryOf}
 use Rattle.book.specs.Calls.{Call, run}
 use Rattle.book.specs.Promises.{deadline, EntersBy, sameWords, delivers, InState, FlowInState, Promises}
 use Rattle.book.proofs.Path.{Sound, entered-before}
+use Rattle.book.proofs.Entries.{lowest-enters}
 use Rattle.book.proofs.Queue.{entered-within, serial-range, serial-once}
 use Rattle.book.proofs.Traced.{line-ok}
 use Rattle.book.proofs.Spans.{Lawful}
@@ -36,7 +37,10 @@ module _ (p : Plan) (b : Book) (k : Kept p b) where
   law = k .lawful
 
   enters-in-time : (l : Line) → Mem l (b .lines) → (T : ℕ) → windowOf p (l .flow) ≡ At T → EntersBy (deadline p l T) (b .clock) (l .stage)
-  enters-in-time l m T e = by-stage (l .stage) (λ w. omega (arith, waiting-due p (l .flow) known T H sum free b law pace l m refl w)) (λ w. omega (arith, pace .timely l m refl w))
+  enters-in-time l m T e =
+      by-stage (l .stage)
+      (λ w. omega (arith, waiting-due p (l .flow) known T H sum free b law pace l m refl w))
+      (λ w. omega (arith, pace .timely l m refl w))
     where
       known : l .flow < length (p .flows)
       known = law .traced .known l m
@@ -53,7 +57,8 @@ module _ (p : Plan) (b : Book) (k : Kept p b) where
       pace : Pace p b (l .flow) T H
       pace = k .pace (l .flow) known T H sum free
 
-      by-stage : (s : Stage) → (isWaiting s ≡ true → b .clock ≤ deadline p l T) → (isWaiting s ≡ false → entryOf s ≤ deadline p l T) → EntersBy (deadline p l T) (b .clock) s
+      by-stage : (s : Stage) → (isWaiting s ≡ true → b .clock ≤ deadline p l T) → (isWaiting s ≡ false → entryOf s ≤ deadline p l T)
+          → EntersBy (deadline p l T) (b .clock) s
       by-stage waiting w d = w refl
       by-stage (placed e at) w d = d refl
       by-stage (left e t x y) w d = d refl
@@ -81,13 +86,16 @@ module _ (p : Plan) (b : Book) (k : Kept p b) where
   module _ (ds : List Delivery) (told : (r : Delivery → Bool) → count (gone r) (b .lines) ≡ count r ds) where
     same-refl : (d : Delivery) → sameWords d d ≡ true
     same-refl d =
-        rw (eq-eqb (d .flow) (d .flow) refl, eq-eqb (d .serial) (d .serial) refl, eq-eqb (d .entry) (d .entry) refl, eq-eqb (d .exit) (d .exit) refl, eq-eqb (d .D) (d .D) refl)
+        rw (own (d .flow), own (d .serial), own (d .entry), own (d .exit), own (d .D))
+      where
+        own : (n : ℕ) → eqb n n ≡ true
+        own n = eq-eqb n n refl
 
     once : (l : Line) → Mem l (b .lines) → isLeft (l .stage) ≡ true → count (delivers l) ds ≡ 1
-    once l m left′ =
+    once l m has-exit =
         let most : count (gone (delivers l)) (b .lines) ≤ count (λ h. ofFlow (l .flow) h && eqb (h .serial) (l .serial)) (b .lines) =
         count-mono (gone (delivers l)) (λ h. ofFlow (l .flow) h && eqb (h .serial) (l .serial)) (b .lines) (λ h n t. same h t) in
-        let least = mem-count (gone (delivers l)) (b .lines) m (rw left′ (same-refl (deliveryOf l))) in
+        let least = mem-count (gone (delivers l)) (b .lines) m (rw has-exit (same-refl (deliveryOf l))) in
         let range = serial-range b (law .queued) l m in
         omega (arith, told (delivers l), serial-once b (law .queued) (l .flow) (l .serial) (range .0) (range .1))
       where
@@ -104,7 +112,7 @@ module _ (p : Plan) (b : Book) (k : Kept p b) where
     only : (d : Delivery) → Mem d ds → (l : Line) × Mem l (b .lines) × (isLeft (l .stage) ≡ true) × (delivers l d ≡ true)
     only d m =
         let some : 1 ≤ count (gone (sameWords d)) (b .lines) = rw (told (sameWords d)) (mem-count (sameWords d) ds m (same-refl d)) in
-        let l = any-true (gone (sameWords d)) (b .lines) (count-any (gone (sameWords d)) (b .lines) some) in
+        let l = count-find (gone (sameWords d)) (b .lines) some in
         let h = and-true (isLeft (l .0 .stage)) (sameWords d (deliveryOf (l .0))) (l .2) in
         (l .0, l .1, h .0, h .1)
 
@@ -118,6 +126,7 @@ module _ (p : Plan) (b : Book) (k : Kept p b) where
           delivered-only = only;
           apart = k .apart;
           one-output = λ x y o. one-output p b x y (k .apart) (law .queued) o;
+          lowest-enters = lowest-enters p b;
           known = law .traced .known;
           numbered = law .queued .numbered;
           entered-first = law .queued .entered-first;

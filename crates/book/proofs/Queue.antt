@@ -5,7 +5,7 @@ use mathlib.Core.List.{List, [], _∷_, _++_, map, append-nil, List·Memᴰ as M
 use mathlib.Core.Logic.{_⊎_, inl, inr, _≢_}
 use mathlib.Core.Path.{_≡_, refl, sym, ap, _∙_}
 use Prim.Native.Nat.{ℕ, zero, suc, _+_, _≤_, _<_}
-use native.Mathlib.Decide.{ℕ-discrete}
+use native.Mathlib.Decide.{ℕ-discrete, decLe}
 use native.Mathlib.Nat.{add-zero}
 use native.Mathlib.Omega.{arith}
 use borrow.Author.Tests.{lt-ltb, le-ltb, ltb-true, ltb-false, eq-eqb, ne-eqb, eqb-true, eqb-false}
@@ -14,7 +14,7 @@ use Rattle.laws.specs.Bounded.{tabulate}
 use Rattle.laws.specs.Count.{one, count, any, keep}
 use Rattle.laws.proofs.Cases.{test, and-true}
 use Rattle.laws.proofs.Bounded.{tabulate-more}
-use Rattle.laws.proofs.Count.{mem-map, mem-snoc, any-true, any-mem, mem-count, count-any, count-append, count-map, count-same, count-sum, count-none, count-mono, count-keep}
+use Rattle.laws.proofs.Count.{mem-map, mem-snoc, any-true, any-mem, mem-count, count-find, count-append, count-map, count-same, count-sum, count-none, count-mono, count-keep}
 use Rattle.flow.specs.Plan.{Plan}
 use Rattle.book.specs.Line.{Line, isWaiting}
 use Rattle.book.specs.Book.{Book, ofFlow, waitsFor, enteredFor, totalOf, waitingOf, enteredOf, offered, offeredLine}
@@ -35,7 +35,8 @@ unfolding tabulate
 not-in zero k h = refl
 not-in (suc n) k h =
     let other : n + 1 ≢ k = elim h [ inl l ↦ omega arith | inr l ↦ omega arith ] in
-    rw (count-append (λ i. eqb i k) (tabulate n (λ i. i + 1)) ((n + 1) ∷ []), ne-eqb (n + 1) k other, not-in n k (elim h [ inl l ↦ inl l | inr l ↦ inr (omega arith) ]))
+    let rest = not-in n k (elim h [ inl l ↦ inl l | inr l ↦ inr (omega arith) ]) in
+    rw (count-append (λ i. eqb i k) (tabulate n (λ i. i + 1)) ((n + 1) ∷ []), ne-eqb (n + 1) k other, rest)
 
 once-in : (n k : ℕ) → 1 ≤ k → k ≤ n → count (λ i. eqb i k) (tabulate n (λ i. i + 1)) ≡ 1
 unfolding tabulate
@@ -72,21 +73,18 @@ module _ (b : Book) (q : Queued b) where
   serial-once f k l m = with-serial f k ∙ once-in (totalOf b f) k l m
 
   pub serial-range : (l : Line) → Mem l (b .lines) → (1 ≤ l .serial) × (l .serial ≤ totalOf b (l .flow))
-  serial-range l m = range (test (ltb 0 (l .serial))) (test (ltb (totalOf b (l .flow)) (l .serial)))
+  serial-range l m = (
+    elim (decLe 1 (l .serial)) [ yes h ↦ h | no h ↦ absurd (inside (inl (omega arith))) ],
+    elim (decLe (l .serial) (totalOf b (l .flow))) [ yes h ↦ h | no h ↦ absurd (inside (inr (omega arith))) ],
+  )
     where
-      here : 1 ≤ count (λ k. ofFlow (l .flow) k && eqb (k .serial) (l .serial)) (b .lines)
-      here =
-          mem-count (λ k. ofFlow (l .flow) k && eqb (k .serial) (l .serial)) (b .lines) m
-          (rw (eq-eqb (l .flow) (l .flow) refl, eq-eqb (l .serial) (l .serial) refl))
+      own : Line → Bool
+      own k = ofFlow (l .flow) k && eqb (k .serial) (l .serial)
 
       inside : (l .serial < 1) ⊎ (totalOf b (l .flow) < l .serial) → ⊥
-      inside h = omega (arith, here, with-serial (l .flow) (l .serial), not-in (totalOf b (l .flow)) (l .serial) h)
-
-      range : (ltb 0 (l .serial) ≡ true) ⊎ (ltb 0 (l .serial) ≡ false) → (ltb (totalOf b (l .flow)) (l .serial) ≡ true) ⊎ (ltb (totalOf b (l .flow)) (l .serial) ≡ false)
-          → (1 ≤ l .serial) × (l .serial ≤ totalOf b (l .flow))
-      range (inl h) (inr k) = (ltb-true 0 (l .serial) h, ltb-false (totalOf b (l .flow)) (l .serial) k)
-      range (inl h) (inl k) = absurd (inside (inr (ltb-true (totalOf b (l .flow)) (l .serial) k)))
-      range (inr h) k = absurd (inside (inl (omega (arith, ltb-false 0 (l .serial) h))))
+      inside h =
+          let here = mem-count own (b .lines) m (rw (eq-eqb (l .flow) (l .flow) refl, eq-eqb (l .serial) (l .serial) refl)) in
+          omega (arith, with-serial (l .flow) (l .serial), not-in (totalOf b (l .flow)) (l .serial) h)
 
   -- a waiting line's serial is past the entered ones
   pub waits-past : (l : Line) → Mem l (b .lines) → isWaiting (l .stage) ≡ true → enteredOf b (l .flow) < l .serial
@@ -115,18 +113,26 @@ module _ (b : Book) (q : Queued b) where
                 let k = any-true lower (b .lines) h in
                 let parts = and-true (waitsFor (l .flow) (k .0)) (ltb (k .0 .serial) (l .serial)) (k .2) in
                 let waits = and-true (ofFlow (l .flow) (k .0)) (isWaiting (k .0 .stage)) (parts .0) in
-                absurd (omega (arith, ltb-true (k .0 .serial) (l .serial) (parts .1), waits-past (k .0) (k .1) (waits .1), ap (enteredOf b) (eqb-true (k .0 .flow) (l .flow) (waits .0))))
+                let below = ltb-true (k .0 .serial) (l .serial) (parts .1) in
+                let same = ap (enteredOf b) (eqb-true (k .0 .flow) (l .flow) (waits .0)) in
+                absurd (omega (arith, waits-past (k .0) (k .1) (waits .1)))
           ]
 
       some : enteredOf b (l .flow) + 1 < l .serial → any lower (b .lines) ≡ true
       some past =
           let next : Line → Bool = λ k. ofFlow (l .flow) k && eqb (k .serial) (enteredOf b (l .flow) + 1) in
-          let k = any-true next (b .lines) (count-any next (b .lines) (omega (arith, serial-once (l .flow) (enteredOf b (l .flow) + 1) (omega arith) (omega (arith, serial-range l m))))) in
+          let there = serial-once (l .flow) (enteredOf b (l .flow) + 1) (omega arith) (omega (arith, serial-range l m)) in
+          let k = count-find next (b .lines) (omega arith) in
           let parts = and-true (ofFlow (l .flow) (k .0)) (eqb (k .0 .serial) (enteredOf b (l .flow) + 1)) (k .2) in
           let serial = eqb-true (k .0 .serial) (enteredOf b (l .flow) + 1) (parts .1) in
           let same = ap (enteredOf b) (eqb-true (k .0 .flow) (l .flow) (parts .0)) in
           any-mem lower (b .lines) (k .1)
-          (rw (parts .0, q .entered-first (k .0) (k .1), lt-ltb (enteredOf b (k .0 .flow)) (k .0 .serial) (omega arith), lt-ltb (k .0 .serial) (l .serial) (omega arith)))
+          (rw (
+            parts .0,
+            q .entered-first (k .0) (k .1),
+            lt-ltb (enteredOf b (k .0 .flow)) (k .0 .serial) (omega arith),
+            lt-ltb (k .0 .serial) (l .serial) (omega arith),
+          ))
 
   module _ (p : Plan) where
     -- who enters, of a flow that does
@@ -150,7 +156,7 @@ module _ (b : Book) (q : Queued b) where
               rw en
               (count-same (λ l. ofFlow f l && goes p b l) (λ l. ofFlow f l && eqb (l .serial) (enteredOf b f + 1)) (b .lines) (λ l m. next l m en)
               ∙ serial-once f (enteredOf b f + 1) (omega arith) (omega (arith, ap (enteredOf b) same, ap (totalOf b) same)))
-          | inr no′ ↦ rw no′ (count-none (λ l. ofFlow f l && goes p b l) (b .lines) (λ l m. none l no′))
+          | inr out ↦ rw out (count-none (λ l. ofFlow f l && goes p b l) (b .lines) (λ l m. none l out))
         ]
       where
         next : (l : Line) → Mem l (b .lines) → enters p b f ≡ true → ofFlow f l && goes p b l ≡ ofFlow f l && eqb (l .serial) (enteredOf b f + 1)
@@ -161,9 +167,9 @@ module _ (b : Book) (q : Queued b) where
             ]
 
         none : (l : Line) → enters p b f ≡ false → ofFlow f l && goes p b l ≡ false
-        none l no′ =
+        none l out =
             elim (ℕ-discrete (l .flow) f) [
-              | yes e ↦ rw (ap (enters p b) e ∙ no′) (simp and-false)
+              | yes e ↦ rw (ap (enters p b) e ∙ out) (simp and-false)
               | no e ↦ rw (ne-eqb (l .flow) f e)
             ]
 
@@ -233,12 +239,15 @@ module _ (b : Book) (q : Queued b) where
       within : enteredOf b f ≤ totalOf b f
       within = count-mono (enteredFor f) (ofFlow f) (b .lines) (λ l m e. and-true (ofFlow f l) (not (isWaiting (l .stage))) e .0)
 
-      serials-more : (g : ℕ) (ls : List Line) → map serialOf (keep (ofFlow g) (ls ++ (new′ ∷ []))) ≡ map serialOf (keep (ofFlow g) ls) ++ map serialOf (keep (ofFlow g) (new′ ∷ []))
+      serials : (g : ℕ) → List Line → List ℕ
+      serials g ls = map serialOf (keep (ofFlow g) ls)
+
+      serials-more : (g : ℕ) (ls : List Line) → serials g (ls ++ (new′ ∷ [])) ≡ serials g ls ++ serials g (new′ ∷ [])
       serials-more g [] = refl
       serials-more g (l ∷ ls) =
           elim (test (ofFlow g l)) [ inl e ↦ rw e (ap (λ (ns : List ℕ). l .serial ∷ ns) (serials-more g ls)) | inr e ↦ rw e (serials-more g ls) ]
 
-      more : (g : ℕ) → map serialOf (keep (ofFlow g) (b .lines)) ++ map serialOf (keep (ofFlow g) (new′ ∷ [])) ≡ tabulate (totalOf (offered b f) g) (λ i. i + 1)
+      more : (g : ℕ) → serials g (b .lines) ++ serials g (new′ ∷ []) ≡ tabulate (totalOf (offered b f) g) (λ i. i + 1)
       more g =
           rw (q .numbered g, count-append (ofFlow g) (b .lines) (new′ ∷ []))
           (elim (ℕ-discrete f g) [

@@ -9,6 +9,7 @@ use Rattle.laws.specs.Bounded.{tabulate}
 use Rattle.laws.specs.Count.{count, keep}
 use Rattle.flow.specs.declared.Flow.{Flow}
 use Rattle.flow.specs.declared.Port.{Port}
+use Rattle.flow.specs.Offsets.{sameClient}
 use Rattle.flow.specs.Plan.{Plan, flowAt}
 use Rattle.bucket.specs.Regulator.{bucketFits}
 use Rattle.window.specs.declared.Found.the-variants.{At}
@@ -16,7 +17,7 @@ use Rattle.window.specs.Window.{windowOf}
 use Rattle.window.specs.Flight.{travel, mostDeflections}
 use Rattle.book.specs.Line.{Place, columnOf, rowOf, Stage, waiting, placed, left, Line, isWaiting, isLeft, standsIn}
 use Rattle.book.specs.Book.{Book, bucketAt, ofFlow, totalOf, waitingOf, enteredOf}
-use Rattle.book.specs.Cycle.{leavesBy, Delivery, deliveryOf}
+use Rattle.book.specs.Cycle.{ready, enters, leavesBy, Delivery, deliveryOf}
 use Rattle.book.specs.Calls.{lastClock, mostWaiting}
 use Rattle.book.specs.InPlace.{inPlace}
 
@@ -77,6 +78,8 @@ pub record Promises (p : Plan) (b : Book) (delivered : List Delivery) : Type 0 w
   pub apart : (at : Place) → count (λ (l : Line). standsIn at (l .stage)) (b .lines) ≤ 1
   -- one output carries one packet
   pub one-output : (x y : ℕ) (o : Port) → count (leavesBy p b x y o) (b .lines) ≤ 1
+  -- of one client's ready flows only the lowest-numbered enters
+  pub lowest-enters : (f g : ℕ) → enters p b f ≡ true → ready p b g ≡ true → sameClient (flowAt p f) (flowAt p g) ≡ true → f ≤ g
   -- every line is of a flow of the plan; a flow's serials are 1..n in the order of its offers, the entered ones first
   pub known : (l : Line) → Mem l (b .lines) → l .flow < length (p .flows)
   pub numbered : (f : ℕ) → map (λ (l : Line). l .serial) (keep (ofFlow f) (b .lines)) ≡ tabulate (totalOf b f) (λ i. i + 1)

@@ -36,8 +36,8 @@ module _ {A : Type 0} where
   any-true t (z ∷ l) e = pick (λ d. any-true t l d) (test (t z))
     where
       pick : (any t l ≡ true → (x : A) × Mem x l × (t x ≡ true)) → (t z ≡ true) ⊎ (t z ≡ false) → (x : A) × Mem x (z ∷ l) × (t x ≡ true)
-      pick later (inl yes′) = (z, here refl, yes′)
-      pick later (inr no′) = let n = later (rw no′ at e) in (n .0, there (n .1), n .2)
+      pick later (inl hit) = (z, here refl, hit)
+      pick later (inr miss) = let n = later (rw miss at e) in (n .0, there (n .1), n .2)
 
   pub any-mem : (t : A → Bool) {x : A} (l : List A) → Mem x l → t x ≡ true → any t l ≡ true
   any-mem t (z ∷ l) (here e) h = rw (← e, h)
@@ -58,8 +58,9 @@ module _ {A : Type 0} where
   none-count t [] e = refl
   none-count t (z ∷ l) e = elim (test (t z)) [ inl h ↦ absurd (false≢true (sym e ∙ rw h)) | inr h ↦ rw (h, none-count t l (rw h at e)) ]
 
-  pub count-any : (t : A → Bool) (l : List A) → 1 ≤ count t l → any t l ≡ true
-  count-any t l h = elim (test (any t l)) [ inl e ↦ e | inr e ↦ absurd (omega (arith, none-count t l e)) ]
+  -- a member that passes, where some are counted
+  pub count-find : (t : A → Bool) (l : List A) → 1 ≤ count t l → (x : A) × Mem x l × (t x ≡ true)
+  count-find t l h = any-true t l (elim (test (any t l)) [ inl e ↦ e | inr e ↦ absurd (omega (arith, none-count t l e)) ])
 
   pub count-append : (t : A → Bool) (l m : List A) → count t (l ++ m) ≡ count t l + count t m
   count-append t [] m = omega arith

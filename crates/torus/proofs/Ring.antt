@@ -104,6 +104,17 @@ offset-next size from at f l =
       ]
     ]
 
+-- short of a place, the next one is one nearer
+pub offset-on : (size from at to : ℕ) → from < size → at < size → to < size → offset size from at < offset size from to
+    → offset size from (next size at) ≡ offset size from at + 1
+offset-on size from at to f l m short =
+    elim (offset-next size from at f l) [ inl h ↦ h .1 | inr h ↦ absurd (omega (arith, offset-below size from to f m)) ]
+
+pub offset-short : (size from at to : ℕ) → from < size → at < size → to < size → offset size from at ≤ offset size from to → at ≢ to
+    → offset size from at < offset size from to
+offset-short size from at to f l m short other =
+    let apart : offset size from at ≢ offset size from to = λ e. other (offset-one size from at to f l m e) in omega arith
+
 -- the lap is the offset, but the size where that is 0
 pub lap-cases : (size from to : ℕ) → ((offset size from to ≡ 0) × (lap size from to ≡ size)) ⊎ ((1 ≤ offset size from to) × (lap size from to ≡ offset size from to))
 unfolding lap
