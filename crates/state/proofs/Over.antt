@@ -1,28 +1,22 @@
 -- Laws of memory whose leading part is written anew, part by part, and of refusals. Rests on specs/Outcome.
-use mathlib.Core.List.{List, [], _∷_, _++_, append-assoc}
+use mathlib.Core.List.{List, _++_}
 use mathlib.Core.Path.{_≡_, refl, sym, ap, _∙_}
 use Prim.Native.Nat.{ℕ, zero, suc, _+_, _≤_, _<_}
+use native.Mathlib.Nat.{zero-add}
 use native.Mathlib.Omega.{arith}
-use lib.ListN.{length, getD, take, drop, length-append, length-drop}
-use lib.Seq.{sets, sets-eq, take-append-seam, drop-append-add, drop-drop, take-suc, take-all}
+use lib.ListN.{length, drop, length-append, length-drop}
+use lib.Seq.{sets, sets-eq}
 use Rattle.laws.proofs.Stands.{Stands, stands-start}
 use Rattle.plan.specs.declared.Answer.{Answer}
 use Rattle.plan.specs.declared.Answer.the-variants.{Done, Refused}
 use Rattle.state.specs.Outcome.{Outcome, outcome, refused, unless, unlessRefused, over}
 
-pub over-none : (memory : List ℕ) → memory ≡ over [] memory
-over-none memory = refl
-
 pub over-length : (part memory : List ℕ) → length part ≤ length memory → length (over part memory) ≡ length memory
 over-length part memory h = omega (arith, length-append part (drop (length part) memory), length-drop (length part) memory)
 
--- the next part, written behind the one before
-pub over-more : (part next memory : List ℕ) → length part + length next ≤ length memory
-    → sets (over part memory) (length part) next ≡ over (part ++ next) memory
-over-more part next memory h =
-    let rest = drop (length part) memory in
-    sets-eq next (over part memory) (length part) (omega (arith, over-length part memory (omega arith)))
-    ∙ rw (take-append-seam part rest, drop-append-add part rest (length next), drop-drop (length next) (length part) memory, length-append part next)
+-- a run of stores from the start
+pub over-sets : (part memory : List ℕ) → length part ≤ length memory → sets memory 0 part ≡ over part memory
+over-sets part memory h = sets-eq part memory 0 (omega arith) ∙ rw zero-add
 
 -- memory with the part at its start, and the rest as it was
 pub over-is : (part memory after : List ℕ) → Stands 0 after 0 part → drop (length part) after ≡ drop (length part) memory → after ≡ over part memory

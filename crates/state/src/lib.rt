@@ -98,7 +98,8 @@ pub fn cell_in(w: &[u32], at: usize) -> Cell
     Cell { west, north }
 }
 
-fn put_four(w: &mut [u32], at: usize, a: u32, b: u32, c: u32, d: u32)
+// Writes four words at a place.
+pub fn put_four(w: &mut [u32], at: usize, a: u32, b: u32, c: u32, d: u32)
     requires { ⌜ at + 4 ≤ length (now w) ⌝ }
     ensures { λ _. ⌜ now (w .exit) ≡ sets (now (w .entry)) at (a ∷ b ∷ c ∷ d ∷ []) ⌝ }
 {
@@ -122,6 +123,16 @@ pub fn put_register(w: &mut [u32], at: usize, r: Register)
             deflections,
         } => put_four(w, at, flow + 1, serial, entry, deflections),
     }
+}
+
+// Writes a flow's six plan numbers at a place.
+pub fn put_numbers(w: &mut [u32], at: usize, f: Flow)
+    requires { ⌜ at + flowSize ≤ length (now w) ⌝ }
+    ensures { λ _. ⌜ now (w .exit) ≡ sets (now (w .entry)) at (numberWords f) ⌝ }
+{
+    put_four(w, at, f.xs, f.ys, f.xd, f.yd);
+    w[at + 4] = f.period;
+    w[at + 5] = f.burst;
 }
 
 // Writes a flow's bucket, entered and waiting, behind its plan numbers.
