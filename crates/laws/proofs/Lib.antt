@@ -5,3 +5,4 @@ pub mod Sum
 pub mod Count
 pub mod Parts
 pub mod Turns
+pub mod Written
