@@ -26,7 +26,7 @@ pub wrote-then : {l k m : List ℕ} {at n r : ℕ} {a b : List ℕ} → Wrote l 
 wrote-then {l} {at = at} {a = a} {b = b} h g =
     record {
       place = g .place ∙ rw (h .place, length-append a b) (omega arith);
-      memory = g .memory ∙ rw (h .memory, h .place) (sets-append a b l at)
+      memory = g .memory ∙ rw (h .memory, h .place) (sets-append a b l at);
     }
 
 -- one entry more of a text
