@@ -16,9 +16,9 @@ use Rattle.flow.specs.Offsets.{ΔX, portOf, sameClient}
 use Rattle.flow.specs.Plan.{Plan, flowAt, FlowOk}
 use Rattle.book.specs.Line.{W, N, Stage, waiting, placed, left, Line, isWaiting, standsIn, entryOf}
 use Rattle.book.specs.Book.{Book, bucketAt, ofFlow, waitsFor}
-use Rattle.book.specs.Cycle.{full, turns, westTurns, isOpen, enters, lowest, moveStage, move, stepped}
+use Rattle.book.specs.Cycle.{full, westTurns, isOpen, enters, lowest, moveStage, move, stepped}
 use Rattle.book.proofs.Path.{Sound, progress, step-entry}
-use Rattle.book.proofs.Entries.{client-same, parts-ready, some-enters}
+use Rattle.book.proofs.Entries.{turns-some, client-same, parts-ready, some-enters}
 use Rattle.book.proofs.Moves.{goes, sent-waits, sent-entry, Turn, keeps, stays, comes, turn}
 use Rattle.book.proofs.Queue.{goes-count}
 use Rattle.book.proofs.Traced.{line-ok, moved-progress}
@@ -47,10 +47,6 @@ has-passed p f s c l t =
       entered = not-true (isWaiting (l .stage)) (d .0);
       by-then = d .1;
     }
-
-turns-some : (p : Plan) (b : Book) (x y : ℕ) → westTurns p b x y ≡ true → any (turns p x y) (b .lines) ≡ true
-unfolding westTurns
-turns-some p b x y e = e
 
 module _ (p : Plan) (b : Book) (law : Lawful p b) (f : ℕ) where
   abbrev φ : Flow
@@ -135,7 +131,7 @@ module _ (p : Plan) (b : Book) (law : Lawful p b) (f : ℕ) where
 
       turning : ltb 0 (ΔX (p .sx) φ) ≡ false → westTurns p b (φ .xs) (φ .ys) ≡ true → Blocker
       turning south down =
-          let z = any-true (turns p (φ .xs) (φ .ys)) (b .lines) (turns-some p b (φ .xs) (φ .ys) down) in
+          let z = turns-some p b (φ .xs) (φ .ys) down in
           let k = and-true (standsIn (W (φ .xs) (φ .ys)) (z .0 .stage)) (eqb (φ .xs) ((flowAt p (z .0 .flow)) .xd)) (z .2) in
           (z .0, z .1, west-takes (z .0) (z .0 .stage) (k .0) (inr (south, eqb-true _ _ (k .1))))
 

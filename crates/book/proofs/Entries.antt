@@ -1,5 +1,6 @@
 -- Who enters in a step (01, One cycle, rule 3): a ready flow of a client, the lowest-numbered and no other. Rests on specs/Cycle.
 use mathlib.Core.Bool.{Bool, true, false, not, _&&_, false≢true}
+use mathlib.Core.List.{List·Memᴰ as Mem}
 use mathlib.Core.Logic.{_⊎_, inl, inr}
 use mathlib.Core.Path.{_≡_, sym, _∙_}
 use Prim.Native.Nat.{ℕ, _≤_, _<_}
@@ -11,11 +12,13 @@ use Rattle.laws.specs.Bounded.{anyBelow}
 use Rattle.laws.specs.Count.{any}
 use Rattle.laws.proofs.Cases.{test, and-true}
 use Rattle.laws.proofs.Bounded.{first-below, none-below, none-at}
+use Rattle.laws.proofs.Count.{any-true, any-mem}
 use Rattle.flow.specs.declared.Flow.{Flow}
 use Rattle.flow.specs.Offsets.{portOf, sameClient}
 use Rattle.flow.specs.Plan.{Plan, flowAt}
+use Rattle.book.specs.Line.{Line}
 use Rattle.book.specs.Book.{Book, bucketAt, waitsFor}
-use Rattle.book.specs.Cycle.{isOpen, ready, enters}
+use Rattle.book.specs.Cycle.{turns, westTurns, isOpen, ready, enters}
 
 pub client-parts : (f g : Flow) → sameClient f g ≡ true → (f .xs ≡ g .xs) × (f .ys ≡ g .ys)
 client-parts f g e =
@@ -23,6 +26,16 @@ client-parts f g e =
 
 pub client-same : (f g : Flow) → f .xs ≡ g .xs → f .ys ≡ g .ys → sameClient f g ≡ true
 client-same f g x y = rw (eq-eqb (f .xs) (g .xs) x, eq-eqb (f .ys) (g .ys) y)
+
+module _ (p : Plan) (b : Book) (x y : ℕ) where
+  -- W goes S where some packet in it does
+  pub turns-any : (l : Line) → Mem l (b .lines) → turns p x y l ≡ true → westTurns p b x y ≡ true
+  unfolding westTurns
+  turns-any l m t = any-mem (turns p x y) (b .lines) m t
+
+  pub turns-some : westTurns p b x y ≡ true → (l : Line) × Mem l (b .lines) × (turns p x y l ≡ true)
+  unfolding westTurns
+  turns-some t = any-true (turns p x y) (b .lines) t
 
 module _ (p : Plan) (b : Book) where
   -- a waiting packet, a token and an open port
@@ -51,7 +64,7 @@ module _ (p : Plan) (b : Book) where
 
   pub entering-ready : (f : ℕ) → enters p b f ≡ true → Ready f
   unfolding enters
-  entering-ready f e = ready-parts f (and-true (ready p b f) (not (anyBelow f (rival f))) e .0)
+  entering-ready f e = ready-parts f (and-true (ready p b f) _ e .0)
 
   -- no lower-numbered flow of the client is ready
   pub lowest-enters : (f g : ℕ) → enters p b f ≡ true → ready p b g ≡ true → sameClient (flowAt p f) (flowAt p g) ≡ true → f ≤ g
