@@ -106,11 +106,11 @@ module _ (p : Plan) (b : Book) (x y : ℕ) where
   client-parts : (o : Port) (l : Line) → client o l ≡ true → Entering o l
   client-parts o l t =
       let φ : Flow = flowAt p (l .flow) in
-      let a = and-true (isWaiting (l .stage) && (enters p b (l .flow) && lowest b l)) (eqb x (φ .xs) && eqb y (φ .ys) && samePort (portOf (p .sx) φ) o) t in
-      let g = and-true (isWaiting (l .stage)) (enters p b (l .flow) && lowest b l) (a .0) in
-      let e = and-true (enters p b (l .flow)) (lowest b l) (g .1) in
-      let c = and-true (eqb x (φ .xs) && eqb y (φ .ys)) (samePort (portOf (p .sx) φ) o) (a .1) in
-      let s = and-true (eqb x (φ .xs)) (eqb y (φ .ys)) (c .0) in
+      let a = and-true _ _ t in
+      let g = and-true _ _ (a .0) in
+      let e = and-true _ _ (g .1) in
+      let c = and-true _ _ (a .1) in
+      let s = and-true _ _ (c .0) in
       record {
         waits = g .0;
         entering = e .0;
@@ -149,7 +149,7 @@ module _ (p : Plan) (b : Book) (x y : ℕ) where
   west-client : (o : Port) → any (west o) (b .lines) ≡ true → isOpen p b x y o ≡ true → ⊥
   west-client East w c =
       let z = any-true (west East) (b .lines) w in
-      let h = and-true (standsIn (W x y) (z .0 .stage)) _ (z .2) in
+      let h = and-true _ _ (z .2) in
       false≢true (sym (ap not (full-mem (W x y) (z .0) (z .1) (h .0))) ∙ c)
   west-client South w c =
       let z = any-true (west South) (b .lines) w in
@@ -162,11 +162,11 @@ module _ (p : Plan) (b : Book) (x y : ℕ) where
       let z = any-true (north East) (b .lines) n in
       let h = and-true (standsIn (N x y) (z .0 .stage)) (samePort (cond (not (westTurns p b x y)) South East) East) (z .2) in
       let w = turns-some p b x y (not-false (westTurns p b x y) (to-east _ (h .1))) in
-      false≢true (sym (ap not (full-mem (W x y) (w .0) (w .1) (and-true (standsIn (W x y) (w .0 .stage)) _ (w .2) .0))) ∙ c)
+      false≢true (sym (ap not (full-mem (W x y) (w .0) (w .1) (and-true _ _ (w .2) .0))) ∙ c)
   north-client South n c =
       let z = any-true (north South) (b .lines) n in
-      let h = and-true (standsIn (N x y) (z .0 .stage)) _ (z .2) in
-      false≢true (sym (ap not (full-mem (N x y) (z .0) (z .1) (h .0))) ∙ and-true (not (full b (N x y))) (not (westTurns p b x y)) c .0)
+      let h = and-true _ _ (z .2) in
+      false≢true (sym (ap not (full-mem (N x y) (z .0) (z .1) (h .0))) ∙ and-true _ _ c .0)
 
   west-north : (o : Port) → Apart b → any (west o) (b .lines) ≡ true → any (north o) (b .lines) ≡ true → ⊥
   west-north East apart w n =

@@ -120,7 +120,7 @@ module _ (p : Plan) (b : Book) (k : Kept p b) where
     only d m =
         let some : 1 ≤ count (gone (sameWords d)) (b .lines) = rw (told (sameWords d)) (mem-count (sameWords d) ds m (same-refl d)) in
         let l = count-find (gone (sameWords d)) (b .lines) some in
-        let h = and-true (isLeft (l .0 .stage)) (sameWords d (deliveryOf (l .0))) (l .2) in
+        let h = and-true _ _ (l .2) in
         (l .0, l .1, h .0, h .1)
 
     kept-promises : Promises p b ds
