@@ -60,7 +60,7 @@ feed-cases p b Q refuses offers steps (step room) =
     ]
 
 module _ (p : Plan) where
-  kept-start : PlanOk p → Kept p (start p)
+  pub kept-start : PlanOk p → Kept p (start p)
   kept-start ok =
       record {
         lawful = lawful-start p ok;
@@ -111,7 +111,7 @@ module _ (p : Plan) where
             rw (count-map (waitsFor f) (move p b) (b .lines))
             (le-trans (count-mono (λ l. waitsFor f (move p b l)) (waitsFor f) (b .lines) (λ l m t. waited-for f l t)) (k .waiting-most f))
 
-    kept-feed : (c : Call) → Kept p (feed p b c .book)
+    pub kept-feed : (c : Call) → Kept p (feed p b c .book)
     kept-feed c = feed-cases p b (λ (fed : Fed). Kept p (fed .book)) (λ n. k) kept-offer (λ room early. kept-step early) c
 
     -- what a call delivers is what it lets leave

@@ -62,7 +62,7 @@ module _ (p : Plan) (b : Book) (k : Kept p b) where
       by-stage (placed e at) w d = d refl
       by-stage (left e t x y) w d = d refl
 
-  in-state : (l : Line) → Mem l (b .lines) → InState p b l (l .stage)
+  pub in-state : (l : Line) → Mem l (b .lines) → InState p b l (l .stage)
   in-state l m = by-stage (l .stage) (law .traced .sound l m) (entered-within b (law .queued) l m)
     where
       okl : FlowOk (p .sx) (p .sy) (flowAt p (l .flow))
@@ -79,7 +79,7 @@ module _ (p : Plan) (b : Book) (k : Kept p b) where
       )
       by-stage (left e t x y) h w = tt
 
-  flow-in-state : (f : ℕ) → f < length (p .flows) → FlowInState p b f
+  pub flow-in-state : (f : ℕ) → f < length (p .flows) → FlowInState p b f
   flow-in-state f l =
       record { bucket-fits = fits _ _ (bucketAt b f) (b .clock) _ (law .regulated f l); waiting-most = k .waiting-most f; entered-most = k .entered-most f }
 

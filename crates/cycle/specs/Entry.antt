@@ -11,7 +11,9 @@ use Rattle.flow.specs.Offsets.{portOf, sameClient}
 use Rattle.flow.specs.Plan.{Plan, flowAt}
 use Rattle.state.specs.declared.Register.{Register}
 use Rattle.state.specs.declared.Register.the-variants.{Empty, Packet}
-use Rattle.state.specs.State.{State, Tally, Cell, tallyAt, cellAt}
+use Rattle.state.specs.declared.Tally.{Tally}
+use Rattle.state.specs.declared.Cell.{Cell}
+use Rattle.state.specs.State.{State, tallyAt, cellAt}
 use Rattle.cycle.specs.Router.{eastOpen, southOpen, firstOf}
 
 -- the port of the router in column x, with these registers, is open

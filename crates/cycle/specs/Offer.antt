@@ -1,7 +1,8 @@
 -- An offer on a state: one more waiting, and nothing else (01, State memory).
 use Prim.Native.Nat.{ℕ, _+_}
 use lib.ListN.{set}
-use Rattle.state.specs.State.{Tally, State, tallyAt}
+use Rattle.state.specs.declared.Tally.{Tally}
+use Rattle.state.specs.State.{State, tallyAt}
 
 unfoldable pub offerState : State → (flow : ℕ) → State
 offerState s flow =

@@ -6,7 +6,7 @@ use Rattle.flow.specs.declared.Flow.{Flow}
 use Rattle.flow.specs.Plan.{Plan, flowAt}
 use Rattle.state.specs.declared.Register.{Register}
 use Rattle.state.specs.declared.Register.the-variants.{Empty, Packet}
-use Rattle.state.specs.State.{Cell}
+use Rattle.state.specs.declared.Cell.{Cell}
 
 abbrev pub isEmpty : Register → Bool
 isEmpty Empty = true

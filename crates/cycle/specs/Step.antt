@@ -13,7 +13,9 @@ use Rattle.flow.specs.Plan.{Plan, flowAt}
 use Rattle.bucket.specs.Regulator.{afterCycle}
 use Rattle.state.specs.declared.Register.{Register}
 use Rattle.state.specs.declared.Register.the-variants.{Empty, Packet}
-use Rattle.state.specs.State.{Tally, Cell, State, tallyAt, cellAt}
+use Rattle.state.specs.declared.Tally.{Tally}
+use Rattle.state.specs.declared.Cell.{Cell}
+use Rattle.state.specs.State.{State, tallyAt, cellAt}
 use Rattle.cycle.specs.Router.{atHome, sentEast, sentSouth}
 use Rattle.cycle.specs.Entry.{enters, clientSends}
 

@@ -3,5 +3,9 @@ pub mod Cases
 pub mod Bounded
 pub mod Sum
 pub mod Count
+pub mod Keep
 pub mod Parts
+pub mod Stands
+pub mod Grid
 pub mod Turns
+pub mod Written

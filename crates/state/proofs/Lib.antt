@@ -1,1 +1,7 @@
 -- The laws of the state and its words.
+pub mod Words
+pub mod Read
+pub mod View
+pub mod Forms
+pub mod Again
+pub mod Over

@@ -10,6 +10,10 @@ headerSize = 8
 abbrev pub flowSize : ℕ
 flowSize = 10
 
+-- of these, plan numbers
+abbrev pub numberSize : ℕ
+numberSize = 6
+
 -- four per link register
 abbrev pub registerSize : ℕ
 registerSize = 4

@@ -11,7 +11,9 @@ use Rattle.flow.specs.Plan.{Plan}
 use Rattle.state.specs.declared.Register.{Register}
 use Rattle.state.specs.declared.Register.the-variants.{Empty, Packet}
 use Rattle.state.specs.Layout.{flowPlace, routerPlace, registerSize}
-use Rattle.state.specs.State.{Tally, Cell, State}
+use Rattle.state.specs.declared.Tally.{Tally}
+use Rattle.state.specs.declared.Cell.{Cell}
+use Rattle.state.specs.State.{State}
 
 abbrev pub sxIn : List ℕ → ℕ
 sxIn w = getD w 0 0

@@ -7,19 +7,9 @@ use Rattle.laws.specs.Grid.{grid, cellIndex}
 use Rattle.flow.specs.Plan.{Plan, flowAt}
 use Rattle.bucket.specs.declared.Bucket.{Bucket}
 use Rattle.bucket.specs.Regulator.{fullBucket}
-use Rattle.state.specs.declared.Register.{Register}
-use Rattle.state.specs.declared.Register.the-variants.{Empty, Packet}
-
--- a flow's bucket, entered and waiting
-pub record Tally : Type 0 where
-  pub bucket : Bucket
-  pub entered : ℕ
-  pub waiting : ℕ
-
--- the link registers of a router
-pub record Cell : Type 0 where
-  pub west : Register
-  pub north : Register
+use Rattle.state.specs.declared.Register.the-variants.{Empty}
+use Rattle.state.specs.declared.Tally.{Tally}
+use Rattle.state.specs.declared.Cell.{Cell}
 
 -- the cells stand by row, then column
 pub record State : Type 0 where

@@ -7,22 +7,35 @@ use Rattle.flow.specs.declared.Flow.{Flow}
 use Rattle.flow.specs.Plan.{Plan, flowAt}
 use Rattle.state.specs.declared.Register.{Register}
 use Rattle.state.specs.declared.Register.the-variants.{Empty, Packet}
-use Rattle.state.specs.State.{Tally, Cell, State, tallyAt, cellAt}
+use Rattle.state.specs.declared.Tally.{Tally}
+use Rattle.state.specs.declared.Cell.{Cell}
+use Rattle.state.specs.State.{State, tallyAt, cellAt}
 
 -- Sx, Sy, F, clock, four zeros
 abbrev pub headerWords : Plan → (clock : ℕ) → List ℕ
 headerWords p clock = p .sx ∷ p .sy ∷ length (p .flows) ∷ clock ∷ 0 ∷ 0 ∷ 0 ∷ 0 ∷ []
 
--- its six plan numbers in record order, tokens, count, entered, waiting
+-- a flow's six plan numbers in record order
+abbrev pub numberWords : Flow → List ℕ
+numberWords f = f .xs ∷ f .ys ∷ f .xd ∷ f .yd ∷ f .period ∷ f .burst ∷ []
+
+-- its tokens, count, entered, waiting
+abbrev pub tallyWords : Tally → List ℕ
+tallyWords t = t .bucket .tokens ∷ t .bucket .count ∷ t .entered ∷ t .waiting ∷ []
+
+-- ten per flow
 abbrev pub flowWords : Flow → Tally → List ℕ
-flowWords f t =
-    f .xs ∷ f .ys ∷ f .xd ∷ f .yd ∷ f .period ∷ f .burst
-    ∷ t .bucket .tokens ∷ t .bucket .count ∷ t .entered ∷ t .waiting ∷ []
+flowWords f t = numberWords f ++ tallyWords t
 
 -- empty is four zeros; otherwise flow + 1, serial, entry cycle, deflections D
 abbrev pub registerWords : Register → List ℕ
 registerWords Empty = 0 ∷ 0 ∷ 0 ∷ 0 ∷ []
 registerWords (Packet flow serial entry deflections) = (flow + 1) ∷ serial ∷ entry ∷ deflections ∷ []
+
+-- the number of the flow whose packet it is, where it holds one
+abbrev pub flowOf : Register → ℕ
+flowOf Empty = 0
+flowOf (Packet flow serial entry deflections) = flow
 
 -- W before N
 abbrev pub cellWords : Cell → List ℕ

@@ -6,7 +6,7 @@ use native.Mathlib.Nat.{mod-eq-of-lt, mod-lt, add-mod-right}
 use native.Mathlib.Decide.{decLe, ℕ-discrete}
 use native.Mathlib.Omega.{arith}
 use borrow.Author.Tests.{eq-eqb, ne-eqb}
-use Rattle.torus.specs.Ring.{offset, next, lap}
+use Rattle.torus.specs.Ring.{offset, next, lap, previous}
 
 -- `to` lies at or after `from`, or the way goes round the end once
 pub offset-cases : (size from to : ℕ) → from < size → to < size
@@ -70,17 +70,22 @@ next-one size a b l m e =
       | inr h ↦ elim (next-cases size b m) [ inl k ↦ absurd (omega arith) | inr k ↦ omega arith ]
     ]
 
--- each place is next to one
-pub next-of : (size to : ℕ) → to < size → (at : ℕ) × (at < size) × (next size at ≡ to)
-next-of size to l =
-    elim (ℕ-discrete to 0) [
+-- the place before comes next to this one
+pub previous-next : (size at : ℕ) → at < size → (previous size at < size) × (next size (previous size at) ≡ at)
+unfolding previous
+previous-next size at l =
+    elim (ℕ-discrete at 0) [
       | yes e ↦
           let m : size - 1 < size = omega arith in
-          (size - 1, m, elim (next-cases size (size - 1) m) [ inl h ↦ omega arith | inr h ↦ absurd (omega arith) ])
+          rw (eq-eqb at 0 e) (m, elim (next-cases size (size - 1) m) [ inl h ↦ omega arith | inr h ↦ absurd (omega arith) ])
       | no e ↦
-          let m : to - 1 < size = omega arith in
-          (to - 1, m, elim (next-cases size (to - 1) m) [ inl h ↦ absurd (omega arith) | inr h ↦ omega arith ])
+          let m : at - 1 < size = omega arith in
+          rw (ne-eqb at 0 e) (m, elim (next-cases size (at - 1) m) [ inl h ↦ absurd (omega arith) | inr h ↦ omega arith ])
     ]
+
+-- each place is next to one
+pub next-of : (size to : ℕ) → to < size → (at : ℕ) × (at < size) × (next size at ≡ to)
+next-of size to l = let h = previous-next size to l in (previous size to, h .0, h .1)
 
 -- one place on, the offset is one more, or the ring is round
 pub offset-next : (size from at : ℕ) → from < size → at < size
