@@ -1,10 +1,10 @@
 -- What a client sends by a port is the line that enters there, or nothing (01, One cycle, rule 3). Rests on Entry and
 -- Outgoing, and on the book's queues.
-use mathlib.Core.Bool.{Bool, true, false, cond, not, _&&_, _||_, false≢true, and-true, and-false}
-use mathlib.Core.List.{List, [], _∷_, map, List·Memᴰ as Mem}
-use mathlib.Core.Logic.{_⊎_, inl, inr}
+use mathlib.Core.Bool.{Bool, true, false, _&&_, false≢true, and-true, and-false}
+use mathlib.Core.List.{[], _∷_, map, List·Memᴰ as Mem}
+use mathlib.Core.Logic.{inl, inr}
 use mathlib.Core.Path.{_≡_, refl, sym, ap, _∙_}
-use Prim.Native.Nat.{ℕ, zero, suc, _+_, _≤_, _<_}
+use Prim.Native.Nat.{ℕ, zero, suc, _+_, _<_}
 use native.Mathlib.Decide.{ℕ-discrete}
 use native.Mathlib.Nat.{eq-or-lt-of-le, le-of-suc-le-suc, add-zero}
 use native.Mathlib.Omega.{arith}
@@ -12,16 +12,16 @@ use borrow.Author.Tests.{eq-eqb, ne-eqb, eqb-true}
 use lib.Dec.{eqb}
 use lib.ListN.{length}
 use Rattle.laws.specs.Bounded.{anyBelow}
-use Rattle.laws.specs.Count.{one, count, any, keep}
-use Rattle.laws.proofs.Cases.{test}
+use Rattle.laws.specs.Count.{one, count, keep}
+use Rattle.laws.proofs.Cases.{test, eqb-swap}
 use Rattle.laws.proofs.Cases as Cases
 use Rattle.laws.proofs.Bounded.{first-below, none-at}
-use Rattle.laws.proofs.Count.{any-true, count-any}
+use Rattle.laws.proofs.Count.{count-find}
 use Rattle.laws.proofs.Keep.{keep-same, keep-none, keep-one}
 use Rattle.flow.specs.declared.Flow.{Flow}
 use Rattle.flow.specs.declared.Port.{Port}
 use Rattle.flow.specs.declared.Port.the-variants.{East, South}
-use Rattle.flow.specs.Offsets.{portOf, sameClient}
+use Rattle.flow.specs.Offsets.{portOf}
 use Rattle.flow.specs.Plan.{Plan, flowAt}
 use Rattle.book.specs.Line.{Stage, waiting, placed, left, Line, isWaiting, entryOf}
 use Rattle.book.specs.Book.{Book, ofFlow, enteredOf}
@@ -31,10 +31,8 @@ use Rattle.book.proofs.Path.{Sound}
 use Rattle.book.proofs.Moves.{goes, Turn, keeps, stays, comes, turn}
 use Rattle.book.proofs.Entries.{client-same, one-enters}
 use Rattle.book.proofs.Queue.{lowest-next, goes-count}
-use Rattle.state.specs.declared.Register.{Register}
 use Rattle.state.specs.declared.Register.the-variants.{Empty, Packet}
-use Rattle.state.specs.State.{State, tallyAt}
-use Rattle.cycle.specs.Router.{firstOf}
+use Rattle.state.specs.State.{State}
 use Rattle.cycle.specs.Entry.{entering, isPort, uses, clientBelow, clientSends}
 use Rattle.cycle.specs.Entry
 use Rattle.book.proofs.Kept.{Kept}
@@ -47,9 +45,6 @@ use Rattle.run.proofs.Outgoing.{entersBy, Entering, entering-parts}
 -- a flow that enters by this port
 abbrev admits : State → (x y : ℕ) → Port → ℕ → Bool
 admits s x y o f = uses s x y o f && Entry.enters s f
-
-eqb-sym : (a b : ℕ) → eqb a b ≡ eqb b a
-eqb-sym a b = elim (ℕ-discrete a b) [ yes e ↦ rw (eq-eqb a b e, eq-eqb b a (sym e)) | no e ↦ rw (ne-eqb a b e, ne-eqb b a (λ u. e (sym u))) ]
 
 port-sym : (o o′ : Port) → isPort o o′ ≡ samePort o′ o
 port-sym East East = refl
@@ -107,7 +102,7 @@ module _ (p : Plan) (b : Book) (o : Kept p b) where
     unfolding bookState
     uses-same g =
         let φ : Flow = flowAt p g in
-        rw (eqb-sym (φ .xs) x, eqb-sym (φ .ys) y, port-sym port (portOf (p .sx) φ))
+        rw (eqb-swap (φ .xs) x, eqb-swap (φ .ys) y, port-sym port (portOf (p .sx) φ))
 
     -- no flow enters by this port
     none-enters : anyBelow (length (p .flows)) (admits s x y port) ≡ false → keep (entersBy p b x y port) (b .lines) ≡ []
@@ -153,7 +148,7 @@ module _ (p : Plan) (b : Book) (o : Kept p b) where
           let t : Line → Bool = λ l. ofFlow f l && goes p b l in
           let n = goes-count b (o .lawful .queued) p f in
           let c : count t (b .lines) ≡ 1 = n ∙ ap one f-enters in
-          let l = any-true t (b .lines) (count-any t (b .lines) (omega arith)) in
+          let l = count-find t (b .lines) (omega arith) in
           let h = Cases.and-true (ofFlow f (l .0)) (goes p b (l .0)) (l .2) in (
             l .0,
             keep-same (entersBy p b x y port) t (b .lines) (λ k m. who-enters k) ∙ keep-one t (b .lines) (omega arith) (l .0) (l .1) (l .2),

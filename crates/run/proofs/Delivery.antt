@@ -1,14 +1,12 @@
 -- What a cycle delivers on the state of a book is what the book delivers, in the same order (01, One cycle). Rests on Step.
-use mathlib.Core.Bool.{Bool, true, false, cond, not, _&&_, false≢true}
-use mathlib.Core.List.{List, [], _∷_, _++_, map, append-assoc, List·Memᴰ as Mem}
-use mathlib.Core.Logic.{_⊎_, inl, inr}
-use mathlib.Core.Path.{_≡_, refl, sym, ap, _∙_}
-use Prim.Native.Nat.{ℕ, zero, suc, _+_, _≤_, _<_}
-use native.Mathlib.Omega.{arith}
+use mathlib.Core.Bool.{true, _&&_, false≢true}
+use mathlib.Core.List.{List, [], _∷_, _++_, map}
+use mathlib.Core.Logic.{inl, inr}
+use mathlib.Core.Path.{_≡_, refl, sym, _∙_}
+use Prim.Native.Nat.{ℕ, _<_}
 use borrow.Author.Tests.{eqb-true}
 use lib.Dec.{eqb}
 use lib.ListN.{length, length-map}
-use Rattle.laws.specs.Bounded.{sumBelow}
 use Rattle.laws.specs.Count.{one, keep, joinBelow}
 use Rattle.laws.proofs.Cases.{test}
 use Rattle.laws.proofs.Cases as Cases
@@ -19,10 +17,10 @@ use Rattle.flow.specs.declared.Port.the-variants.{South}
 use Rattle.flow.specs.Plan.{Plan, flowAt}
 use Rattle.book.specs.Line.{Stage, waiting, placed, left, Line, leftAt, exitOf}
 use Rattle.book.specs.Book.{Book}
-use Rattle.book.specs.Cycle.{move, moveStage, stepped, Delivery, deliveryOf, exitsOf, deliveries, wordsOf}
+use Rattle.book.specs.Cycle.{move, stepped, Delivery, deliveryOf, exitsOf, deliveries, wordsOf}
 use Rattle.book.proofs.Traced.{line-ok}
 use Rattle.cycle.specs.Router.{atHome}
-use Rattle.cycle.specs.Step.{exits, southward, delivered, stepDelivers}
+use Rattle.cycle.specs.Step.{exits, delivered, stepDelivers}
 use Rattle.cycle.specs.Calls.{exitCount}
 use Rattle.book.proofs.Kept.{Kept}
 use Rattle.run.specs.View.{bookState}

@@ -1,38 +1,32 @@
 -- The lines that a router sends by a port: the one in W or N that takes it, else the one that enters (01, One cycle, rules 1
 -- and 3). Rests on Sends.
-use mathlib.Core.Bool.{Bool, true, false, cond, not, _&&_, _||_, false≢true, and-true, and-false, or-false}
-use mathlib.Core.List.{List, [], _∷_, map, List·Memᴰ as Mem, List·Memᴰ·head as here, List·Memᴰ·tail as there}
-use mathlib.Core.Logic.{_⊎_, inl, inr}
+use mathlib.Core.Bool.{Bool, true, false, cond, _&&_, _||_, false≢true, and-true, or-false}
+use mathlib.Core.List.{List, [], _∷_, map, List·Memᴰ as Mem, List·Memᴰ·head as here}
+use mathlib.Core.Logic.{inl, inr}
 use mathlib.Core.Path.{_≡_, refl, sym, ap, _∙_}
-use Prim.Native.Nat.{ℕ, _+_, _≤_, _<_}
-use native.Mathlib.Decide.{ℕ-discrete}
+use Prim.Native.Nat.{ℕ, _+_}
 use native.Mathlib.Nat.{add-zero}
-use native.Mathlib.Omega.{arith}
-use borrow.Author.Tests.{eq-eqb, ne-eqb, eqb-true, not-false}
+use borrow.Author.Tests.{eqb-true}
 use lib.Dec.{eqb}
-use lib.ListN.{length}
-use Rattle.laws.specs.Count.{one, count, any, keep}
+use Rattle.laws.specs.Count.{one, keep}
 use Rattle.laws.proofs.Cases.{test}
 use Rattle.laws.proofs.Cases as Cases
-use Rattle.laws.proofs.Count.{any-mem}
-use Rattle.laws.proofs.Keep.{keep-same, keep-both, keep-map, kept, length-keep}
+use Rattle.laws.proofs.Keep.{kept}
 use Rattle.flow.specs.declared.Flow.{Flow}
 use Rattle.flow.specs.declared.Port.{Port}
 use Rattle.flow.specs.declared.Port.the-variants.{East, South}
 use Rattle.flow.specs.Offsets.{portOf}
-use Rattle.flow.specs.Plan.{Plan, flowAt, FlowOk}
-use Rattle.book.specs.Line.{Place, W, N, columnOf, rowOf, samePlace, Stage, waiting, placed, left, Line, standsIn, isWaiting, entryOf}
+use Rattle.flow.specs.Plan.{Plan, flowAt}
+use Rattle.book.specs.Line.{Place, W, N, Stage, waiting, placed, left, Line, standsIn, isWaiting, entryOf}
 use Rattle.book.specs.Book.{Book}
 use Rattle.book.specs.Cycle.{samePort, westTurns, deflects, deflected, isOpen, enters, lowest, moveStage, leaves, leavesBy, move}
 use Rattle.book.proofs.Moves.{goes, sent-entry, goes-enters}
 use Rattle.book.proofs.Entries.{entering-ready}
-use Rattle.book.proofs.Traced.{line-ok}
 use Rattle.state.specs.declared.Register.{Register}
 use Rattle.state.specs.declared.Register.the-variants.{Empty, Packet}
 use Rattle.cycle.specs.Router as Router
-use Rattle.book.proofs.Kept.{Kept}
 use Rattle.run.specs.View.{packetOf, holding, placedIn, registerOf}
-use Rattle.run.proofs.View.{line-turns}
+use Rattle.run.proofs.View.{place-same}
 use Rattle.run.proofs.Sends.{atPort}
 
 -- the lines that the router in column x and row y sends by port o
@@ -55,19 +49,12 @@ port-same East South e = absurd (false≢true e)
 port-same South East e = absurd (false≢true e)
 port-same South South e = refl
 
-place-same : (p : Plan) (b : Book) (at at′ : Place) → samePlace at at′ ≡ true → deflects p b at′ ≡ deflects p b at
-place-same p b (W x y) (W x′ y′) e = refl
-place-same p b (W x y) (N x′ y′) e = absurd (false≢true e)
-place-same p b (N x y) (W x′ y′) e = absurd (false≢true e)
-place-same p b (N x y) (N x′ y′) e =
-    let h = Cases.and-true (eqb x x′) (eqb y y′) e in rw (eqb-true x x′ (h .0), eqb-true y y′ (h .1))
-
 module _ (p : Plan) (b : Book) (l : Line) where
   -- a placed line's step, as a register has it
   stage-moves : (at : Place) (s : Stage) → standsIn at s ≡ true
       → (deflected p b s ≡ deflects p b at) × (entryOf (moveStage p b l s) ≡ entryOf s)
   stage-moves at waiting e = absurd (false≢true e)
-  stage-moves at (placed e′ at′) e = (place-same p b at at′ e, sent-entry p _ _ _ _ _ _)
+  stage-moves at (placed e′ at′) e = (ap (deflects p b) (place-same at at′ e), sent-entry p _ _ _ _ _ _)
   stage-moves at (left e′ t x y) e = absurd (false≢true e)
 
   onward-is : (flow serial entry D : ℕ) (d : Bool) → Packet flow serial entry (D + one d) ≡ onward d (Packet flow serial entry D)

@@ -1,25 +1,21 @@
 -- What a router sends by its outputs is the line that the book sends there, at most one (01, One cycle, rules 1 and 3). Rests on
 -- Outgoing and Client.
-use mathlib.Core.Bool.{Bool, true, false, cond, not, _&&_, _||_, false≢true, and-true, and-false, or-false}
-use mathlib.Core.List.{List, map, List·Memᴰ as Mem}
-use mathlib.Core.Logic.{_⊎_, inl, inr}
-use mathlib.Core.Path.{_≡_, refl, sym, ap, _∙_}
-use Prim.Native.Nat.{ℕ, _≤_, _<_}
-use native.Mathlib.Omega.{arith}
-use borrow.Author.Tests.{not-false}
+use mathlib.Core.Bool.{Bool, true, false, cond, _&&_, _||_, false≢true, and-true, and-false, or-false}
+use mathlib.Core.List.{map, List·Memᴰ as Mem}
+use mathlib.Core.Logic.{inl, inr}
+use mathlib.Core.Path.{_≡_, refl, sym, _∙_}
+use Prim.Native.Nat.{ℕ, _<_}
 use lib.Dec.{eqb}
-use lib.ListN.{length}
-use Rattle.laws.specs.Count.{count, any, keep}
 use Rattle.laws.proofs.Cases.{test}
 use Rattle.laws.proofs.Cases as Cases
 use Rattle.laws.proofs.Count.{any-true, any-mem}
-use Rattle.laws.proofs.Keep.{keep-same, length-keep}
+use Rattle.laws.proofs.Keep.{keep-same}
 use Rattle.flow.specs.declared.Port.{Port}
 use Rattle.flow.specs.declared.Port.the-variants.{East, South}
 use Rattle.flow.specs.Plan.{Plan, flowAt}
 use Rattle.book.specs.Line.{Place, W, N, Line}
 use Rattle.book.specs.Book.{Book}
-use Rattle.book.specs.Cycle.{samePort, full, turns, westTurns, deflects, isOpen, leavesBy, move}
+use Rattle.book.specs.Cycle.{samePort, full, turns, westTurns, deflects, leavesBy, move}
 use Rattle.state.specs.declared.Register.{Register}
 use Rattle.state.specs.declared.Register.the-variants.{Empty, Packet}
 use Rattle.cycle.specs.Router.{isEmpty, firstOf, sentEast, sentSouth}

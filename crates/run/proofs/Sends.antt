@@ -1,9 +1,9 @@
 -- By which port of which router a line is sent in a step, and where it then stands (01, One cycle, rules 1 and 2). Rests on
 -- the book's Path.
-use mathlib.Core.Bool.{Bool, true, false, cond, not, _&&_, and-true, and-false}
+use mathlib.Core.Bool.{Bool, true, false, not, _&&_, and-true, and-false}
 use mathlib.Core.Logic.{_⊎_, inl, inr}
-use mathlib.Core.Path.{_≡_, refl, sym, ap, _∙_}
-use Prim.Native.Nat.{ℕ, _+_, _≤_, _<_}
+use mathlib.Core.Path.{_≡_, refl, ap}
+use Prim.Native.Nat.{ℕ, _<_}
 use native.Mathlib.Decide.{ℕ-discrete}
 use native.Mathlib.Omega.{arith}
 use borrow.Author.Tests.{eq-eqb, ne-eqb}
@@ -14,11 +14,10 @@ use Rattle.torus.proofs.Ring.{next-one}
 use Rattle.flow.specs.declared.Flow.{Flow}
 use Rattle.flow.specs.declared.Port.{Port}
 use Rattle.flow.specs.declared.Port.the-variants.{East, South}
-use Rattle.flow.specs.Offsets.{portOf}
 use Rattle.flow.specs.Plan.{Plan, flowAt, FlowOk}
-use Rattle.book.specs.Line.{Place, W, N, columnOf, rowOf, Stage, waiting, placed, left, Line, standsIn, leftAt}
+use Rattle.book.specs.Line.{W, N, Stage, waiting, placed, left, Line, standsIn, leftAt}
 use Rattle.book.specs.Book.{Book}
-use Rattle.book.specs.Cycle.{samePort, output, sent, enters, lowest, leaves, moveStage}
+use Rattle.book.specs.Cycle.{samePort, sent, enters, lowest, leaves, moveStage}
 use Rattle.book.proofs.Path.{Sound, placed-on}
 
 -- a packet at the router in column x′ and row y′ that takes port o′ is sent by port o of the router in column x and row y

@@ -1,18 +1,16 @@
 -- One cycle on the state of a book is the book's step, register by register (01, One cycle). Rests on Outputs.
 use mathlib.Core.Bool.{Bool, true, false, cond, not, _&&_}
-use mathlib.Core.List.{List, [], _∷_, map, List·Memᴰ as Mem, List·Memᴰ·head as here}
+use mathlib.Core.List.{[], _∷_, map, List·Memᴰ as Mem, List·Memᴰ·head as here}
 use mathlib.Core.Logic.{_⊎_, inl, inr}
 use mathlib.Core.Path.{_≡_, refl, sym, ap, _∙_}
-use Prim.Native.Nat.{ℕ, _+_, _-_, _≤_, _<_}
+use Prim.Native.Nat.{ℕ, _+_, _-_, _<_}
 use native.Mathlib.Omega.{arith}
-use lib.ListN.{length, getD}
-use Rattle.laws.specs.Bounded.{tabulate}
-use Rattle.laws.specs.Count.{one, count, keep}
-use Rattle.laws.specs.Grid.{grid}
+use lib.ListN.{length}
+use Rattle.laws.specs.Count.{one, keep}
 use Rattle.laws.proofs.Cases.{test}
 use Rattle.laws.proofs.Bounded.{getD-tabulate}
 use Rattle.laws.proofs.Count.{count-map, count-sum}
-use Rattle.laws.proofs.Keep.{few, kept, keep-same, keep-both, keep-map, length-keep}
+use Rattle.laws.proofs.Keep.{few, kept, keep-all, keep-same, keep-both, keep-map, length-keep}
 use Rattle.laws.proofs.Grid.{tabulate-same, grid-same}
 use Rattle.torus.specs.Ring.{next, previous}
 use Rattle.torus.proofs.Ring.{previous-next}
@@ -22,29 +20,22 @@ use Rattle.flow.specs.declared.Port.the-variants.{East, South}
 use Rattle.flow.specs.Plan.{Plan, flowAt}
 use Rattle.bucket.specs.Regulator.{fullBucket, afterCycle}
 use Rattle.book.specs.Line.{W, N, Stage, Line, isWaiting}
-use Rattle.book.specs.Book.{Book, bucketAt, ofFlow, waitsFor, waitingOf, enteredOf}
-use Rattle.book.specs.Cycle.{enters, lowest, leavesBy, move, stepped}
+use Rattle.book.specs.Book.{Book, bucketAt, ofFlow, waitsFor, waitingOf}
+use Rattle.book.specs.Cycle.{enters, leavesBy, move, stepped}
 use Rattle.book.proofs.Moves.{goes, Turn, keeps, stays, comes, turn}
 use Rattle.book.proofs.Queue.{goes-count, entered-step}
 use Rattle.book.proofs.Traced.{line-ok}
 use Rattle.book.proofs.Outputs.{one-output}
-use Rattle.state.specs.declared.Register.{Register}
-use Rattle.state.specs.declared.Register.the-variants.{Empty, Packet}
-use Rattle.state.specs.declared.Tally.{Tally}
-use Rattle.state.specs.State.{State}
+use Rattle.state.specs.declared.Register.the-variants.{Empty}
 use Rattle.cycle.specs.Router.{atHome}
 use Rattle.cycle.specs.Step.{eastward, southward, exits, nextCell, nextTally, stepState}
 use Rattle.book.proofs.Kept.{Kept}
-use Rattle.run.specs.View.{packetOf, holding, placedIn, registerOf, cellOf, tallyOf, bookState}
+use Rattle.run.specs.View.{packetOf, registerOf, cellOf, tallyOf, bookState}
 use Rattle.run.proofs.View.{tally-at}
 use Rattle.run.proofs.Entry.{enters-same}
 use Rattle.run.proofs.Sends.{Tells, isHome, moved, east-tells, north-tells}
 use Rattle.run.proofs.Outgoing.{outgoing}
 use Rattle.run.proofs.Outputs.{east, south}
-
-keep-all : {A : Type 0} (l : List A) → keep (λ x. true) l ≡ l
-keep-all [] = refl
-keep-all (x ∷ l) = rw (keep-all l)
 
 module _ (p : Plan) (b : Book) (ord : Kept p b) where
   -- the lines with a given new stage are those that were sent there
