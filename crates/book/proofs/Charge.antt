@@ -16,9 +16,9 @@ use Rattle.flow.specs.Offsets.{ΔX, portOf, sameClient}
 use Rattle.flow.specs.Plan.{Plan, flowAt, FlowOk}
 use Rattle.book.specs.Line.{W, N, Stage, waiting, placed, left, Line, isWaiting, standsIn, entryOf}
 use Rattle.book.specs.Book.{Book, bucketAt, ofFlow, waitsFor}
-use Rattle.book.specs.Cycle.{full, turns, westTurns, isOpen, enters, lowest, moveStage, move, stepped}
+use Rattle.book.specs.Cycle.{full, westTurns, isOpen, enters, lowest, moveStage, move, stepped}
 use Rattle.book.proofs.Path.{Sound, progress, step-entry}
-use Rattle.book.proofs.Entries.{client-same, parts-ready, some-enters}
+use Rattle.book.proofs.Entries.{turns-some, client-same, parts-ready, some-enters}
 use Rattle.book.proofs.Moves.{goes, sent-waits, sent-entry, Turn, keeps, stays, comes, turn}
 use Rattle.book.proofs.Queue.{goes-count}
 use Rattle.book.proofs.Traced.{line-ok, moved-progress}
@@ -38,19 +38,13 @@ pub record HasPassed (p : Plan) (f s c : ℕ) (l : Line) : Type 0 where
 
 pub has-passed : (p : Plan) (f s c : ℕ) (l : Line) → passed p f s c l ≡ true → HasPassed p f s c l
 has-passed p f s c l t =
-    let φ : Flow = flowAt p f in
-    let ψ : Flow = flowAt p (l .flow) in
-    let a = and-true (not (eqb (l .flow) f)) (passedAt p φ ψ s c (l .stage)) t in
-    let d = and-true (not (isWaiting (l .stage))) (passedBy (meeting (p .sx) (p .sy) φ ψ) s c (entryOf (l .stage)) (progress p ψ (l .stage))) (a .1) in
+    let a = and-true _ _ t in
+    let d = and-true _ _ (a .1) in
     record {
       other = eqb-false (l .flow) f (not-true (eqb (l .flow) f) (a .0));
       entered = not-true (isWaiting (l .stage)) (d .0);
       by-then = d .1;
     }
-
-turns-some : (p : Plan) (b : Book) (x y : ℕ) → westTurns p b x y ≡ true → any (turns p x y) (b .lines) ≡ true
-unfolding westTurns
-turns-some p b x y e = e
 
 module _ (p : Plan) (b : Book) (law : Lawful p b) (f : ℕ) where
   abbrev φ : Flow
@@ -97,7 +91,7 @@ module _ (p : Plan) (b : Book) (law : Lawful p b) (f : ℕ) where
   west-takes z waiting h port = absurd (false≢true h)
   west-takes z (placed e (N x y)) h port = absurd (false≢true h)
   west-takes z (placed e (W x y)) h port =
-      let k = and-true (eqb (φ .xs) x) (eqb (φ .ys) y) h in
+      let k = and-true _ _ h in
       let xe = sym (eqb-true (φ .xs) x (k .0)) in
       let ye = sym (eqb-true (φ .ys) y (k .1)) in
       elim port [ inl east ↦ (xe, ye, rw east tt) | inr south ↦ (xe, ye, rw (south .0) (xe ∙ south .1)) ]
@@ -108,7 +102,7 @@ module _ (p : Plan) (b : Book) (law : Lawful p b) (f : ℕ) where
   north-takes z waiting h south clear = absurd (false≢true h)
   north-takes z (placed e (W x y)) h south clear = absurd (false≢true h)
   north-takes z (placed e (N x y)) h south clear =
-      let k = and-true (eqb (φ .xs) x) (eqb (φ .ys) y) h in
+      let k = and-true _ _ h in
       let xe = sym (eqb-true (φ .xs) x (k .0)) in
       let ye = sym (eqb-true (φ .ys) y (k .1)) in
       (xe, ye, rw (south, xe, ye) clear)
@@ -135,8 +129,8 @@ module _ (p : Plan) (b : Book) (law : Lawful p b) (f : ℕ) where
 
       turning : ltb 0 (ΔX (p .sx) φ) ≡ false → westTurns p b (φ .xs) (φ .ys) ≡ true → Blocker
       turning south down =
-          let z = any-true (turns p (φ .xs) (φ .ys)) (b .lines) (turns-some p b (φ .xs) (φ .ys) down) in
-          let k = and-true (standsIn (W (φ .xs) (φ .ys)) (z .0 .stage)) (eqb (φ .xs) ((flowAt p (z .0 .flow)) .xd)) (z .2) in
+          let z = turns-some p b (φ .xs) (φ .ys) down in
+          let k = and-true _ _ (z .2) in
           (z .0, z .1, west-takes (z .0) (z .0 .stage) (k .0) (inr (south, eqb-true _ _ (k .1))))
 
   -- some line takes the port, or enters before f
@@ -153,7 +147,7 @@ module _ (p : Plan) (b : Book) (law : Lawful p b) (f : ℕ) where
       lower : (g : ℕ) → g < f → sameClient φ (flowAt p g) ≡ true → enters p b g ≡ true → Blocker
       lower g below same en =
           let z = count-find (λ l. ofFlow g l && goes p b l) (b .lines) (rw (goes-count b (law .queued) p g, en) (omega arith)) in
-          let k = and-true (ofFlow g (z .0)) (goes p b (z .0)) (z .2) in
+          let k = and-true _ _ (z .2) in
           let own = eqb-true (z .0 .flow) g (k .0) in
           (z .0, z .1, goes-takes (z .0) (z .0 .stage) (k .1) (ap (λ (h : ℕ). sameClient φ (flowAt p h)) own ∙ same) (omega arith))
 

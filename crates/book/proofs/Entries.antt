@@ -1,28 +1,40 @@
 -- Who enters in a step (01, One cycle, rule 3): a ready flow of a client, the lowest-numbered and no other. Rests on specs/Cycle.
 use mathlib.Core.Bool.{Bool, true, false, not, _&&_, false≢true}
+use mathlib.Core.List.{List·Memᴰ as Mem}
 use mathlib.Core.Logic.{_⊎_, inl, inr}
 use mathlib.Core.Path.{_≡_, sym, _∙_}
 use Prim.Native.Nat.{ℕ, _≤_, _<_}
 use native.Mathlib.Decide.{decLt}
 use native.Mathlib.Omega.{arith}
 use borrow.Author.Tests.{lt-ltb, ltb-true, eq-eqb, eqb-true, not-true}
-use lib.Dec.{ltb, eqb}
 use Rattle.laws.specs.Bounded.{anyBelow}
 use Rattle.laws.specs.Count.{any}
 use Rattle.laws.proofs.Cases.{test, and-true}
 use Rattle.laws.proofs.Bounded.{first-below, none-below, none-at}
+use Rattle.laws.proofs.Count.{any-true, any-mem}
 use Rattle.flow.specs.declared.Flow.{Flow}
 use Rattle.flow.specs.Offsets.{portOf, sameClient}
 use Rattle.flow.specs.Plan.{Plan, flowAt}
+use Rattle.book.specs.Line.{Line}
 use Rattle.book.specs.Book.{Book, bucketAt, waitsFor}
-use Rattle.book.specs.Cycle.{isOpen, ready, enters}
+use Rattle.book.specs.Cycle.{turns, westTurns, isOpen, ready, enters}
 
 pub client-parts : (f g : Flow) → sameClient f g ≡ true → (f .xs ≡ g .xs) × (f .ys ≡ g .ys)
 client-parts f g e =
-    let h = and-true (eqb (f .xs) (g .xs)) (eqb (f .ys) (g .ys)) e in (eqb-true _ _ (h .0), eqb-true _ _ (h .1))
+    let h = and-true _ _ e in (eqb-true _ _ (h .0), eqb-true _ _ (h .1))
 
 pub client-same : (f g : Flow) → f .xs ≡ g .xs → f .ys ≡ g .ys → sameClient f g ≡ true
 client-same f g x y = rw (eq-eqb (f .xs) (g .xs) x, eq-eqb (f .ys) (g .ys) y)
+
+module _ (p : Plan) (b : Book) (x y : ℕ) where
+  -- W goes S where some packet in it does
+  pub turns-any : (l : Line) → Mem l (b .lines) → turns p x y l ≡ true → westTurns p b x y ≡ true
+  unfolding westTurns
+  turns-any l m t = any-mem (turns p x y) (b .lines) m t
+
+  pub turns-some : westTurns p b x y ≡ true → (l : Line) × Mem l (b .lines) × (turns p x y l ≡ true)
+  unfolding westTurns
+  turns-some t = any-true (turns p x y) (b .lines) t
 
 module _ (p : Plan) (b : Book) where
   -- a waiting packet, a token and an open port
@@ -34,11 +46,8 @@ module _ (p : Plan) (b : Book) where
   pub ready-parts : (f : ℕ) → ready p b f ≡ true → Ready f
   unfolding ready
   ready-parts f e =
-      let φ : Flow = flowAt p f in
-      let waits : Bool = any (waitsFor f) (b .lines) in
-      let token : Bool = ltb 0 ((bucketAt b f) .tokens) in
-      let h = and-true (waits && token) (isOpen p b (φ .xs) (φ .ys) (portOf (p .sx) φ)) e in
-      let k = and-true waits token (h .0) in
+      let h = and-true _ _ e in
+      let k = and-true _ _ (h .0) in
       record { waits = k .0; token = ltb-true _ _ (k .1); opened = h .1 }
 
   pub parts-ready : (f : ℕ) → Ready f → ready p b f ≡ true
@@ -51,7 +60,7 @@ module _ (p : Plan) (b : Book) where
 
   pub entering-ready : (f : ℕ) → enters p b f ≡ true → Ready f
   unfolding enters
-  entering-ready f e = ready-parts f (and-true (ready p b f) (not (anyBelow f (rival f))) e .0)
+  entering-ready f e = ready-parts f (and-true (ready p b f) _ e .0)
 
   -- no lower-numbered flow of the client is ready
   pub lowest-enters : (f g : ℕ) → enters p b f ≡ true → ready p b g ≡ true → sameClient (flowAt p f) (flowAt p g) ≡ true → f ≤ g
@@ -72,7 +81,7 @@ module _ (p : Plan) (b : Book) where
         | inr none ↦ inl (rw (r, none))
         | inl some ↦
             let g = first-below (rival f) f some in
-            let parts = and-true (sameClient (flowAt p f) (flowAt p (g .0))) (ready p b (g .0)) (g .2) in
+            let parts = and-true _ _ (g .2) in
             inr (g .0, g .1, parts .0, rw (parts .1, none-below (rival (g .0)) (g .0) (λ i l. lower (g .0) (parts .0) i (none-at (rival f) (g .0) (g .3) i l))))
       ]
     where

@@ -37,7 +37,7 @@ module _ (p : Plan) (b : Book) (f s : ℕ) where
 
   passed-of : (g : ℕ) (l : Line) → passedOf g l ≡ true → PassedOf g l
   passed-of g l t =
-      let a = and-true (eqb (l .flow) g) (passed p f s (b .clock) l) t in
+      let a = and-true _ _ t in
       record { own = eqb-true (l .flow) g (a .0); has = has-passed p f s (b .clock) l (a .1) }
 
   -- none of them, where that can't be

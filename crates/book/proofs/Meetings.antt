@@ -78,8 +78,8 @@ passed-no K J point s c e n l = rw (le-ltb point n l) (and-false (leb s (e + K +
 
 pub passed-parts : (K J point s c e n : ℕ) → passedBy (meets K J point) s c e n ≡ true → (s ≤ e + K + J) × (e + K < c) × (point < n)
 passed-parts K J point s c e n h =
-    let a = and-true (leb s (e + K + J) && ltb (e + K) c) (ltb point n) h in
-    let b = and-true (leb s (e + K + J)) (ltb (e + K) c) (a .0) in
+    let a = and-true _ _ h in
+    let b = and-true _ _ (a .0) in
     (leb-true s (e + K + J) (b .0), ltb-true (e + K) c (b .1), ltb-true point n (a .1))
 
 -- who has passed stays so, as the clock and the progress rise

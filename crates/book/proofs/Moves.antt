@@ -67,7 +67,7 @@ module _ (p : Plan) (b : Book) (l : Line) where
 
   -- a line that comes in is of a flow that enters
   pub goes-enters : goes p b l ≡ true → enters p b (l .flow) ≡ true
-  goes-enters g = and-true (enters p b (l .flow)) (lowest b l) (and-true (isWaiting (l .stage)) (enters p b (l .flow) && lowest b l) g .1) .0
+  goes-enters g = and-true _ _ (and-true (isWaiting (l .stage)) (enters p b (l .flow) && lowest b l) g .1) .0
 
   -- a line that waits has waited
   pub waited : Turn p b l → isWaiting ((move p b l) .stage) ≡ true → isWaiting (l .stage) ≡ true

@@ -20,7 +20,7 @@ use Rattle.flow.specs.Plan.{Plan, flowAt}
 use Rattle.book.specs.Line.{Place, W, N, Stage, waiting, placed, left, Line, isWaiting, standsIn}
 use Rattle.book.specs.Book.{Book, ofFlow}
 use Rattle.book.specs.Cycle.{samePort, full, turns, westTurns, isOpen, enters, lowest, leaves, leavesBy}
-use Rattle.book.proofs.Entries.{client-same, entering-ready, one-enters}
+use Rattle.book.proofs.Entries.{turns-any, turns-some, client-same, entering-ready, one-enters}
 use Rattle.book.proofs.Moves.{goes}
 use Rattle.book.proofs.Queue.{Queued, goes-count}
 
@@ -91,15 +91,6 @@ module _ (p : Plan) (b : Book) (x y : ℕ) where
       ∙ ap (λ (n : ℕ). count (west o) (b .lines) + n)
       (count-sum (λ l. north o l || client o l) (north o) (client o) (b .lines) (λ l m. source-other o l (l .stage)))
 
-  -- W's packet goes S, or doesn't
-  turns-any : (l : Line) → Mem l (b .lines) → turns p x y l ≡ true → westTurns p b x y ≡ true
-  unfolding westTurns
-  turns-any l m t = any-mem (turns p x y) (b .lines) m t
-
-  turns-some : westTurns p b x y ≡ true → (l : Line) × Mem l (b .lines) × (turns p x y l ≡ true)
-  unfolding westTurns
-  turns-some t = any-true (turns p x y) (b .lines) t
-
   full-mem : (at : Place) (l : Line) → Mem l (b .lines) → standsIn at (l .stage) ≡ true → full b at ≡ true
   full-mem at l m h = any-mem (λ (k : Line). standsIn at (k .stage)) (b .lines) m h
 
@@ -115,11 +106,11 @@ module _ (p : Plan) (b : Book) (x y : ℕ) where
   client-parts : (o : Port) (l : Line) → client o l ≡ true → Entering o l
   client-parts o l t =
       let φ : Flow = flowAt p (l .flow) in
-      let a = and-true (isWaiting (l .stage) && (enters p b (l .flow) && lowest b l)) (eqb x (φ .xs) && eqb y (φ .ys) && samePort (portOf (p .sx) φ) o) t in
-      let g = and-true (isWaiting (l .stage)) (enters p b (l .flow) && lowest b l) (a .0) in
-      let e = and-true (enters p b (l .flow)) (lowest b l) (g .1) in
-      let c = and-true (eqb x (φ .xs) && eqb y (φ .ys)) (samePort (portOf (p .sx) φ) o) (a .1) in
-      let s = and-true (eqb x (φ .xs)) (eqb y (φ .ys)) (c .0) in
+      let a = and-true _ _ t in
+      let g = and-true _ _ (a .0) in
+      let e = and-true _ _ (g .1) in
+      let c = and-true _ _ (a .1) in
+      let s = and-true _ _ (c .0) in
       record {
         waits = g .0;
         entering = e .0;
@@ -151,37 +142,37 @@ module _ (p : Plan) (b : Book) (x y : ℕ) where
     where
       same : (z : Line) → Entering o z → (l : Line) → Entering o l → ofFlow (z .flow) l && goes p b l ≡ true
       same z h l k =
-          let own = one-enters p b (l .flow) (z .flow) (k .entering) (h .entering)
-          (client-same (flowAt p (l .flow)) (flowAt p (z .flow)) (sym (k .column) ∙ h .column) (sym (k .row) ∙ h .row)) in
+          let client = client-same (flowAt p (l .flow)) (flowAt p (z .flow)) (sym (k .column) ∙ h .column) (sym (k .row) ∙ h .row) in
+          let own = one-enters p b (l .flow) (z .flow) (k .entering) (h .entering) client in
           rw (eq-eqb (l .flow) (z .flow) own, k .waits, k .entering, k .first)
 
   west-client : (o : Port) → any (west o) (b .lines) ≡ true → isOpen p b x y o ≡ true → ⊥
   west-client East w c =
       let z = any-true (west East) (b .lines) w in
-      let h = and-true (standsIn (W x y) (z .0 .stage)) _ (z .2) in
+      let h = and-true _ _ (z .2) in
       false≢true (sym (ap not (full-mem (W x y) (z .0) (z .1) (h .0))) ∙ c)
   west-client South w c =
       let z = any-true (west South) (b .lines) w in
       let h = and-true (standsIn (W x y) (z .0 .stage)) (samePort (cond (eqb x ((flowAt p (z .0 .flow)) .xd)) South East) South) (z .2) in
-      let turn = turns-any (z .0) (z .1) (rw (h .0) (to-south _ (h .1))) in
+      let turn = turns-any p b x y (z .0) (z .1) (rw (h .0) (to-south _ (h .1))) in
       false≢true (sym (ap not turn) ∙ and-true (not (full b (N x y))) (not (westTurns p b x y)) c .1)
 
   north-client : (o : Port) → any (north o) (b .lines) ≡ true → isOpen p b x y o ≡ true → ⊥
   north-client East n c =
       let z = any-true (north East) (b .lines) n in
       let h = and-true (standsIn (N x y) (z .0 .stage)) (samePort (cond (not (westTurns p b x y)) South East) East) (z .2) in
-      let w = turns-some (not-false (westTurns p b x y) (to-east _ (h .1))) in
-      false≢true (sym (ap not (full-mem (W x y) (w .0) (w .1) (and-true (standsIn (W x y) (w .0 .stage)) _ (w .2) .0))) ∙ c)
+      let w = turns-some p b x y (not-false (westTurns p b x y) (to-east _ (h .1))) in
+      false≢true (sym (ap not (full-mem (W x y) (w .0) (w .1) (and-true _ _ (w .2) .0))) ∙ c)
   north-client South n c =
       let z = any-true (north South) (b .lines) n in
-      let h = and-true (standsIn (N x y) (z .0 .stage)) _ (z .2) in
-      false≢true (sym (ap not (full-mem (N x y) (z .0) (z .1) (h .0))) ∙ and-true (not (full b (N x y))) (not (westTurns p b x y)) c .0)
+      let h = and-true _ _ (z .2) in
+      false≢true (sym (ap not (full-mem (N x y) (z .0) (z .1) (h .0))) ∙ and-true _ _ c .0)
 
   west-north : (o : Port) → Apart b → any (west o) (b .lines) ≡ true → any (north o) (b .lines) ≡ true → ⊥
   west-north East apart w n =
       let z = any-true (north East) (b .lines) n in
       let h = and-true (standsIn (N x y) (z .0 .stage)) (samePort (cond (not (westTurns p b x y)) South East) East) (z .2) in
-      let t = turns-some (not-false (westTurns p b x y) (to-east _ (h .1))) in
+      let t = turns-some p b x y (not-false (westTurns p b x y) (to-east _ (h .1))) in
       omega (
         arith,
         apart (W x y),
@@ -198,7 +189,7 @@ module _ (p : Plan) (b : Book) (x y : ℕ) where
   west-north South apart w n =
       let z = any-true (west South) (b .lines) w in
       let h = and-true (standsIn (W x y) (z .0 .stage)) (samePort (cond (eqb x ((flowAt p (z .0 .flow)) .xd)) South East) South) (z .2) in
-      let turn = turns-any (z .0) (z .1) (rw (h .0) (to-south _ (h .1))) in
+      let turn = turns-any p b x y (z .0) (z .1) (rw (h .0) (to-south _ (h .1))) in
       let k = any-true (north South) (b .lines) n in
       let stays = to-south _ (and-true (standsIn (N x y) (k .0 .stage)) (samePort (cond (not (westTurns p b x y)) South East) South) (k .2) .1) in
       false≢true (sym (ap not turn) ∙ stays)
@@ -207,8 +198,8 @@ module _ (p : Plan) (b : Book) (x y : ℕ) where
   pub one-output : Apart b → Queued b → (o : Port) → count (leavesBy p b x y o) (b .lines) ≤ 1
   one-output apart q o =
       let all = sources o in
-      let w = le-trans (count-mono (west o) (λ l. standsIn (W x y) (l .stage)) (b .lines) (λ l m t. and-true (standsIn (W x y) (l .stage)) _ t .0)) (apart (W x y)) in
-      let n = le-trans (count-mono (north o) (λ l. standsIn (N x y) (l .stage)) (b .lines) (λ l m t. and-true (standsIn (N x y) (l .stage)) _ t .0)) (apart (N x y)) in
+      let w = le-trans (count-mono (west o) (λ l. standsIn (W x y) (l .stage)) (b .lines) (λ l m t. and-true _ _ t .0)) (apart (W x y)) in
+      let n = le-trans (count-mono (north o) (λ l. standsIn (N x y) (l .stage)) (b .lines) (λ l m t. and-true _ _ t .0)) (apart (N x y)) in
       let c = client-one o q in
       elim (test (any (west o) (b .lines))) [
         | inl some ↦ omega (

@@ -1,5 +1,6 @@
 -- The path of a packet: 01's in-place conditions, told without differences, and its progress. One step keeps the conditions
--- and raises the progress. Only this file and its laws know the topology. Rests on the rules 1 and 2 of specs/Cycle.
+-- and raises the progress. Rests on the rules 1 and 2 of specs/Cycle. The topology is known here, to Meetings and Takers (where a way
+-- passes a source) and to Places (which output feeds a register), and to nobody else.
 use mathlib.Core.Bool.{false, cond, false≢true}
 use mathlib.Core.Logic.{_⊎_, inl, inr}
 use mathlib.Core.Path.{_≡_, refl, sym, ap, _∙_}

@@ -40,12 +40,12 @@ sent-reach p f c e x y South at h = elim (test (eqb x (f .xd) && eqb y (f .yd)))
 reach-on : (p : Plan) (x y : ℕ) (o : Port) → x < p .sx → y < p .sy → (at : Place) → samePlace at (reach p x y o) ≡ true
     → (columnOf at < p .sx) × (rowOf at < p .sy)
 reach-on p x y East l m (W x′ y′) s =
-    let t = and-true (eqb x′ (next (p .sx) x)) (eqb y′ y) s in
+    let t = and-true _ _ s in
     (rw (eqb-true x′ (next (p .sx) x) (t .0)) (next-below (p .sx) x l), rw (eqb-true y′ y (t .1)) m)
 reach-on p x y East l m (N x′ y′) s = absurd (false≢true s)
 reach-on p x y South l m (W x′ y′) s = absurd (false≢true s)
 reach-on p x y South l m (N x′ y′) s =
-    let t = and-true (eqb x′ x) (eqb y′ (next (p .sy) y)) s in
+    let t = and-true _ _ s in
     (rw (eqb-true x′ x (t .0)) l, rw (eqb-true y′ (next (p .sy) y) (t .1)) (next-below (p .sy) y m))
 
 -- the one output that leads to a register
@@ -66,7 +66,7 @@ fed-by p (W x y) l m =
   where
     only : (w : ℕ) → w < p .sx → next (p .sx) w ≡ x → Only p (W x y) w y East
     only w on e x′ y′ East h k s =
-        let t = and-true (eqb x (next (p .sx) x′)) (eqb y y′) s in
+        let t = and-true _ _ s in
         (next-one (p .sx) x′ w h on (sym (eqb-true _ _ (t .0)) ∙ sym e), sym (eqb-true _ _ (t .1)), refl)
     only w on e x′ y′ South h k s = absurd (false≢true s)
 fed-by p (N x y) l m =
@@ -75,7 +75,7 @@ fed-by p (N x y) l m =
   where
     only : (n : ℕ) → n < p .sy → next (p .sy) n ≡ y → Only p (N x y) x n South
     only n on e x′ y′ South h k s =
-        let t = and-true (eqb x x′) (eqb y (next (p .sy) y′)) s in
+        let t = and-true _ _ s in
         (sym (eqb-true _ _ (t .0)), next-one (p .sy) y′ n k on (sym (eqb-true _ _ (t .1)) ∙ sym e), refl)
     only n on e x′ y′ East h k s = absurd (false≢true s)
 

@@ -10,7 +10,6 @@ use lib.ListN.{length}
 use Rattle.laws.specs.Count.{count}
 use Rattle.laws.proofs.Cases.{and-true}
 use Rattle.laws.proofs.Count.{mem-count, count-find, count-mono}
-use Rattle.flow.specs.declared.Flow.{Flow}
 use Rattle.flow.specs.Plan.{Plan, flowAt, FlowOk, PlanOk}
 use Rattle.bucket.proofs.Regulator.{fits}
 use Rattle.window.specs.declared.Found.the-variants.{At}
@@ -66,16 +65,18 @@ module _ (p : Plan) (b : Book) (k : Kept p b) where
   pub in-state : (l : Line) → Mem l (b .lines) → InState p b l (l .stage)
   in-state l m = by-stage (l .stage) (law .traced .sound l m) (entered-within b (law .queued) l m)
     where
-      φ : Flow
-      φ = flowAt p (l .flow)
-
       okl : FlowOk (p .sx) (p .sy) (flowAt p (l .flow))
       okl = line-ok p (law .plan) b (law .traced) l m
 
-      by-stage : (s : Stage) → Sound p (flowAt p (l .flow)) (b .clock) (l .D) s → (isWaiting s ≡ false → l .serial ≤ enteredOf b (l .flow)) → InState p b l s
+      by-stage : (s : Stage) → Sound p (flowAt p (l .flow)) (b .clock) (l .D) s → (isWaiting s ≡ false → l .serial ≤ enteredOf b (l .flow))
+          → InState p b l s
       by-stage waiting h w = tt
-      by-stage (placed e at) h w =
-          (serial-range b (law .queued) l m .0, w refl, entered-before p _ okl (b .clock) (l .D) (placed e at) h refl, sound-in-place p _ okl (b .clock) (l .D) e at h)
+      by-stage (placed e at) h w = (
+        serial-range b (law .queued) l m .0,
+        w refl,
+        entered-before p _ okl (b .clock) (l .D) (placed e at) h refl,
+        sound-in-place p _ okl (b .clock) (l .D) e at h,
+      )
       by-stage (left e t x y) h w = tt
 
   pub flow-in-state : (f : ℕ) → f < length (p .flows) → FlowInState p b f
@@ -93,16 +94,22 @@ module _ (p : Plan) (b : Book) (k : Kept p b) where
 
     once : (l : Line) → Mem l (b .lines) → isLeft (l .stage) ≡ true → count (delivers l) ds ≡ 1
     once l m has-exit =
-        let most : count (gone (delivers l)) (b .lines) ≤ count (λ h. ofFlow (l .flow) h && eqb (h .serial) (l .serial)) (b .lines) =
-        count-mono (gone (delivers l)) (λ h. ofFlow (l .flow) h && eqb (h .serial) (l .serial)) (b .lines) (λ h n t. same h t) in
-        let least = mem-count (gone (delivers l)) (b .lines) m (rw has-exit (same-refl (deliveryOf l))) in
         let range = serial-range b (law .queued) l m in
-        omega (arith, told (delivers l), serial-once b (law .queued) (l .flow) (l .serial) (range .0) (range .1))
+        omega (
+          arith,
+          told (delivers l),
+          mem-count (gone (delivers l)) (b .lines) m (rw has-exit (same-refl (deliveryOf l))),
+          count-mono (gone (delivers l)) own (b .lines) (λ h n t. same h t),
+          serial-once b (law .queued) (l .flow) (l .serial) (range .0) (range .1),
+        )
       where
+        own : Line → Bool
+        own h = ofFlow (l .flow) h && eqb (h .serial) (l .serial)
+
         two : (s t u v w : Bool) → s && t && u && v && w ≡ true → s && t ≡ true
         two s t u v w e = and-true (s && t) u (and-true (s && t && u) v (and-true (s && t && u && v) w e .0) .0) .0
 
-        same : (h : Line) → gone (delivers l) h ≡ true → ofFlow (l .flow) h && eqb (h .serial) (l .serial) ≡ true
+        same : (h : Line) → gone (delivers l) h ≡ true → own h ≡ true
         same h t =
             let d : Delivery = deliveryOf h in
             let e : Delivery = deliveryOf l in
@@ -113,7 +120,7 @@ module _ (p : Plan) (b : Book) (k : Kept p b) where
     only d m =
         let some : 1 ≤ count (gone (sameWords d)) (b .lines) = rw (told (sameWords d)) (mem-count (sameWords d) ds m (same-refl d)) in
         let l = count-find (gone (sameWords d)) (b .lines) some in
-        let h = and-true (isLeft (l .0 .stage)) (sameWords d (deliveryOf (l .0))) (l .2) in
+        let h = and-true _ _ (l .2) in
         (l .0, l .1, h .0, h .1)
 
     kept-promises : Promises p b ds

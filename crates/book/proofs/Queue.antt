@@ -111,8 +111,8 @@ module _ (b : Book) (q : Queued b) where
             | inr h ↦ h
             | inl h ↦
                 let k = any-true lower (b .lines) h in
-                let parts = and-true (waitsFor (l .flow) (k .0)) (ltb (k .0 .serial) (l .serial)) (k .2) in
-                let waits = and-true (ofFlow (l .flow) (k .0)) (isWaiting (k .0 .stage)) (parts .0) in
+                let parts = and-true _ _ (k .2) in
+                let waits = and-true _ _ (parts .0) in
                 let below = ltb-true (k .0 .serial) (l .serial) (parts .1) in
                 let same = ap (enteredOf b) (eqb-true (k .0 .flow) (l .flow) (waits .0)) in
                 absurd (omega (arith, waits-past (k .0) (k .1) (waits .1)))
@@ -123,7 +123,7 @@ module _ (b : Book) (q : Queued b) where
           let next : Line → Bool = λ k. ofFlow (l .flow) k && eqb (k .serial) (enteredOf b (l .flow) + 1) in
           let there = serial-once (l .flow) (enteredOf b (l .flow) + 1) (omega arith) (omega (arith, serial-range l m)) in
           let k = count-find next (b .lines) (omega arith) in
-          let parts = and-true (ofFlow (l .flow) (k .0)) (eqb (k .0 .serial) (enteredOf b (l .flow) + 1)) (k .2) in
+          let parts = and-true _ _ (k .2) in
           let serial = eqb-true (k .0 .serial) (enteredOf b (l .flow) + 1) (parts .1) in
           let same = ap (enteredOf b) (eqb-true (k .0 .flow) (l .flow) (parts .0)) in
           any-mem lower (b .lines) (k .1)
@@ -149,7 +149,7 @@ module _ (b : Book) (q : Queued b) where
         elim (test (enters p b f)) [
           | inl en ↦
               let head = any-true (waitsFor f) (b .lines) (entering-ready p b f en .waits) in
-              let waits = and-true (ofFlow f (head .0)) (isWaiting (head .0 .stage)) (head .2) in
+              let waits = and-true _ _ (head .2) in
               let same = eqb-true (head .0 .flow) f (waits .0) in
               let past = waits-past (head .0) (head .1) (waits .1) in
               let within = serial-range (head .0) (head .1) in
@@ -237,7 +237,7 @@ module _ (b : Book) (q : Queued b) where
       same g = entered-offer b f g
 
       within : enteredOf b f ≤ totalOf b f
-      within = count-mono (enteredFor f) (ofFlow f) (b .lines) (λ l m e. and-true (ofFlow f l) (not (isWaiting (l .stage))) e .0)
+      within = count-mono (enteredFor f) (ofFlow f) (b .lines) (λ l m e. and-true _ _ e .0)
 
       serials : (g : ℕ) → List Line → List ℕ
       serials g ls = map serialOf (keep (ofFlow g) ls)

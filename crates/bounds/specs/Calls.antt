@@ -2,7 +2,7 @@
 use mathlib.Core.Bool.{cond}
 use mathlib.Core.List.{List}
 use mathlib.Core.Path.{_≡_}
-use Prim.Native.Nat.{ℕ}
+use Prim.Native.Nat.{ℕ, _≤_}
 use lib.Dec.{ltb}
 use lib.ListN.{length}
 use Rattle.flow.specs.Plan.{Plan, flowAt}
@@ -46,3 +46,8 @@ flightOfPlan p f = flightBound (p .sx) (p .sy) (flowAt p f)
 -- flight bound: plan, 12
 unfoldable pub flightAnswer : List ℕ → ℕ → Answer
 flightAnswer file f = asked file f (Done (flightOfPlan (planOf file) f))
+
+-- the answer has no larger refusal number
+pub data NumberMost (m : ℕ) : Answer → Type 0 where
+  done : {v : ℕ} → NumberMost m (Done v)
+  refused : {n place : ℕ} → n ≤ m → NumberMost m (Refused n place)

@@ -8,3 +8,4 @@ pub mod Parts
 pub mod Stands
 pub mod Grid
 pub mod Turns
+pub mod Written

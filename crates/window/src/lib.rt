@@ -3,8 +3,8 @@ ghost use mathlib.Core.Path.{_≡_};
 ghost use Prim.Native.Nat.{_+_, _*_, _<_, _≤_};
 ghost use lib.ListN.{length};
 ghost use Rattle.window.specs.Conflict.{Pair, conflict, conflictEast, conflictSouth};
-ghost use Rattle.window.specs.Window.{mostWindow, leastFrom};
-ghost use Rattle.flow.specs.Plan.{FlowOk, mostSize};
+ghost use Rattle.window.specs.Window.{mostWindow, leastFrom, loneWait};
+ghost use Rattle.flow.specs.Plan.{FlowOk, mostSize, mostPeriod};
 ghost use Rattle.window.specs.Flight.{flightBound, mostFlight};
 ghost use Rattle.window.specs.Rivals.{rivalShare, demandOf, Rivals, RivalOk, kept, keptWith};
 use flow::Flow;
@@ -138,4 +138,12 @@ pub fn flight_bound(sx: u32, sy: u32, f: Flow) -> u32
     let dx = f.offset_x(sx);
     let dy = f.offset_y(sy);
     dx + dy + dy * sx + 2
+}
+
+// A lone packet's longest wait, by the flow's window.
+pub fn lone_wait(f: Flow, window: u32) -> u32
+    requires { ⌜ ((1 ≤ f .period) × (f .period ≤ mostPeriod)) × ((1 ≤ window) × (window ≤ mostWindow)) ⌝ }
+    ensures { λ r. ⌜ r ≡ loneWait f window ⌝ }
+{
+    f.period + window - 2
 }
