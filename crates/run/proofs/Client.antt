@@ -36,11 +36,11 @@ use Rattle.state.specs.State.{State}
 use Rattle.cycle.specs.Entry.{entering, isPort, uses, clientBelow, clientSends}
 use Rattle.cycle.specs.Entry
 use Rattle.book.proofs.Kept.{Kept}
+use Rattle.book.proofs.Outputs.{client, Entering, client-parts}
 use Rattle.run.specs.View.{packetOf, holding, bookState}
 use Rattle.run.proofs.View.{tally-at}
 use Rattle.run.proofs.Entry.{enters-same}
 use Rattle.run.proofs.Sends.{atPort}
-use Rattle.run.proofs.Outgoing.{entersBy, Entering, entering-parts}
 
 -- a flow that enters by this port
 abbrev admits : State → (x y : ℕ) → Port → ℕ → Bool
@@ -105,9 +105,9 @@ module _ (p : Plan) (b : Book) (o : Kept p b) where
         rw (eqb-swap (φ .xs) x, eqb-swap (φ .ys) y, port-sym port (portOf (p .sx) φ))
 
     -- no flow enters by this port
-    none-enters : anyBelow (length (p .flows)) (admits s x y port) ≡ false → keep (entersBy p b x y port) (b .lines) ≡ []
+    none-enters : anyBelow (length (p .flows)) (admits s x y port) ≡ false → keep (client p b x y port) (b .lines) ≡ []
     none-enters h =
-        keep-none (entersBy p b x y port) (b .lines)
+        keep-none (client p b x y port) (b .lines)
         (λ l m.
         let below = o .lawful .traced .known l m in
         out (isWaiting (l .stage)) (Cycle.enters p b (l .flow)) (lowest b l) (takes (l .flow))
@@ -127,11 +127,11 @@ module _ (p : Plan) (b : Book) (o : Kept p b) where
       f-takes : takes f ≡ true
       f-takes = sym (uses-same f) ∙ Cases.and-true (uses s x y port f) (Entry.enters s f) yes′ .0
 
-      who-enters : (l : Line) → entersBy p b x y port l ≡ ofFlow f l && goes p b l
+      who-enters : (l : Line) → client p b x y port l ≡ ofFlow f l && goes p b l
       who-enters l =
           elim (ℕ-discrete (l .flow) f) [
             | yes e ↦ rw (eq-eqb (l .flow) f e, ap takes e ∙ f-takes) (and-true (goes p b l))
-            | no e ↦ rw (ne-eqb (l .flow) f e) (elim (test (entersBy p b x y port l)) [ inr n ↦ n | inl n ↦ absurd (e (other (entering-parts p b x y port l n))) ])
+            | no e ↦ rw (ne-eqb (l .flow) f e) (elim (test (client p b x y port l)) [ inr n ↦ n | inl n ↦ absurd (e (other (client-parts p b x y port l n))) ])
           ]
         where
           other : Entering p b x y port l → l .flow ≡ f
@@ -139,10 +139,10 @@ module _ (p : Plan) (b : Book) (o : Kept p b) where
               let φ : Flow = flowAt p f in
               let u = Cases.and-true (eqb x (φ .xs) && eqb y (φ .ys)) (samePort (portOf (p .sx) φ) port) f-takes in
               let v = Cases.and-true (eqb x (φ .xs)) (eqb y (φ .ys)) (u .0) in
-              one-enters p b (l .flow) f (h .enter) f-enters (client-same (flowAt p (l .flow)) φ (sym (h .column) ∙ eqb-true _ _ (v .0)) (sym (h .row) ∙ eqb-true _ _ (v .1)))
+              one-enters p b (l .flow) f (h .entering) f-enters (client-same (flowAt p (l .flow)) φ (sym (h .column) ∙ eqb-true _ _ (v .0)) (sym (h .row) ∙ eqb-true _ _ (v .1)))
 
       -- one line, with the packet that the client sends
-      one-sent : (l : Line) × (keep (entersBy p b x y port) (b .lines) ≡ l ∷ []) × (packetOf (move p b l) ≡ entering s f)
+      one-sent : (l : Line) × (keep (client p b x y port) (b .lines) ≡ l ∷ []) × (packetOf (move p b l) ≡ entering s f)
       unfolding bookState
       one-sent =
           let t : Line → Bool = λ l. ofFlow f l && goes p b l in
@@ -151,11 +151,11 @@ module _ (p : Plan) (b : Book) (o : Kept p b) where
           let l = count-find t (b .lines) (omega arith) in
           let h = Cases.and-true (ofFlow f (l .0)) (goes p b (l .0)) (l .2) in (
             l .0,
-            keep-same (entersBy p b x y port) t (b .lines) (λ k m. who-enters k) ∙ keep-one t (b .lines) (omega arith) (l .0) (l .1) (l .2),
+            keep-same (client p b x y port) t (b .lines) (λ k m. who-enters k) ∙ keep-one t (b .lines) (omega arith) (l .0) (l .1) (l .2),
             packet-enters (l .0) (l .1) (h .1) ∙ rw (eqb-true (l .0 .flow) f (h .0), tally-at p b f below),
           )
 
-    pub entrant : clientSends s x y port ≡ holding (map (move p b) (keep (entersBy p b x y port) (b .lines)))
+    pub entrant : clientSends s x y port ≡ holding (map (move p b) (keep (client p b x y port) (b .lines)))
     unfolding bookState
     entrant =
         elim (test (anyBelow (length (p .flows)) (admits s x y port))) [

@@ -5,26 +5,27 @@ use mathlib.Core.List.{map, List·Memᴰ as Mem}
 use mathlib.Core.Logic.{inl, inr}
 use mathlib.Core.Path.{_≡_, refl, sym, _∙_}
 use Prim.Native.Nat.{ℕ, _<_}
-use lib.Dec.{eqb}
 use Rattle.laws.proofs.Cases.{test}
 use Rattle.laws.proofs.Cases as Cases
-use Rattle.laws.proofs.Count.{any-true, any-mem}
+use Rattle.laws.proofs.Count.{any-mem}
 use Rattle.laws.proofs.Keep.{keep-same}
 use Rattle.flow.specs.declared.Port.{Port}
 use Rattle.flow.specs.declared.Port.the-variants.{East, South}
-use Rattle.flow.specs.Plan.{Plan, flowAt}
+use Rattle.flow.specs.Plan.{Plan}
 use Rattle.book.specs.Line.{Place, W, N, Line}
 use Rattle.book.specs.Book.{Book}
-use Rattle.book.specs.Cycle.{samePort, full, turns, westTurns, deflects, leavesBy, move}
+use Rattle.book.specs.Cycle.{samePort, full, westTurns, deflects, leavesBy, move}
 use Rattle.state.specs.declared.Register.{Register}
 use Rattle.state.specs.declared.Register.the-variants.{Empty, Packet}
 use Rattle.cycle.specs.Router.{isEmpty, firstOf, sentEast, sentSouth}
 use Rattle.cycle.specs.Entry.{clientSends}
 use Rattle.cycle.specs.Step.{eastward, southward}
 use Rattle.book.proofs.Kept.{Kept}
+use Rattle.book.proofs.Entries.{turns-some}
+use Rattle.book.proofs.Outputs.{client}
 use Rattle.run.specs.View.{holding, placedIn, registerOf, bookState}
 use Rattle.run.proofs.View.{cell-at, empty-register, west-turns, line-turns}
-use Rattle.run.proofs.Outgoing.{outgoing, entersBy, onward, network, closed, split}
+use Rattle.run.proofs.Outgoing.{outgoing, onward, network, closed, split}
 use Rattle.run.proofs.Client.{entrant}
 
 -- the packet that the router in column x and row y sends by port o in the book
@@ -42,10 +43,9 @@ first-empty (Packet flow serial entry deflections) c e = absurd (false≢true e)
 module _ (p : Plan) (b : Book) (ord : Kept p b) (x y : ℕ) where
   -- W is full where it goes S
   turning-full : westTurns p b x y ≡ true → full b (W x y) ≡ true
-  unfolding westTurns
   turning-full e =
-      let l = any-true (turns p x y) (b .lines) e in
-      any-mem (placedIn (W x y)) (b .lines) (l .1) (Cases.and-true (placedIn (W x y) (l .0)) (eqb x ((flowAt p (l .0 .flow)) .xd)) (l .2) .0)
+      let l = turns-some p b x y e in
+      any-mem (placedIn (W x y)) (b .lines) (l .1) (Cases.and-true _ _ (l .2) .0)
 
   absent : (at : Place) → full b at ≡ false → (l : Line) → Mem l (b .lines) → placedIn at l ≡ false
   absent at none l m =
@@ -55,7 +55,7 @@ module _ (p : Plan) (b : Book) (ord : Kept p b) (x y : ℕ) where
     parts : (l : Line) → Mem l (b .lines)
         → leavesBy p b x y o l
         ≡ (placedIn (W x y) l && samePort (cond (westTurns p b x y) South East) o) || (placedIn (N x y) l && samePort (cond (westTurns p b x y) East South) o)
-        || entersBy p b x y o l
+        || client p b x y o l
     parts l m = split p b x y o l (l .stage) (λ e. line-turns p b (ord .apart) x y l m e)
 
     -- the line in one register takes the port
@@ -64,8 +64,8 @@ module _ (p : Plan) (b : Book) (ord : Kept p b) (x y : ℕ) where
     by-network at d defl same = rw (keep-same (leavesBy p b x y o) (placedIn at) (b .lines) same, ← defl) (sym (network p b at))
 
     -- a line that enters takes it
-    by-client : ((l : Line) → Mem l (b .lines) → leavesBy p b x y o l ≡ entersBy p b x y o l) → clientSends (bookState p b) x y o ≡ sentPacket p b x y o
-    by-client same = rw (keep-same (leavesBy p b x y o) (entersBy p b x y o) (b .lines) same) (entrant p b ord x y o)
+    by-client : ((l : Line) → Mem l (b .lines) → leavesBy p b x y o l ≡ client p b x y o l) → clientSends (bookState p b) x y o ≡ sentPacket p b x y o
+    by-client same = rw (keep-same (leavesBy p b x y o) (client p b x y o) (b .lines) same) (entrant p b ord x y o)
 
   pub east : x < p .sx → y < p .sy → eastward (bookState p b) x y ≡ sentPacket p b x y East
   unfolding eastward sentEast bookState
