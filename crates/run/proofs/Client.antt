@@ -1,5 +1,5 @@
--- What a client sends by a port is the line that enters there, or nothing (01, One cycle, rule 3). Rests on Entry and
--- Outgoing, and on the book's queues.
+-- What a client sends by a port is the line that enters there, or nothing (01, One cycle, rule 3). Rests on Entry and on the
+-- book's queues.
 use mathlib.Core.Bool.{Bool, true, false, _&&_, false≢true, and-true, and-false}
 use mathlib.Core.List.{[], _∷_, map, List·Memᴰ as Mem}
 use mathlib.Core.Logic.{inl, inr}
@@ -74,14 +74,14 @@ waits-fresh p b f c D waiting w h = rw (add-zero, h)
 waits-fresh p b f c D (placed e at) w h = absurd (false≢true w)
 waits-fresh p b f c D (left e t x y) w h = absurd (false≢true w)
 
-module _ (p : Plan) (b : Book) (o : Kept p b) where
+module _ (p : Plan) (b : Book) (k : Kept p b) where
   -- the packet of a line that enters
   packet-enters : (l : Line) → Mem l (b .lines) → goes p b l ≡ true → packetOf (move p b l) ≡ Packet (l .flow) (enteredOf b (l .flow) + 1) (b .clock) 0
   packet-enters l m g =
       let w = Cases.and-true (isWaiting (l .stage)) (Cycle.enters p b (l .flow) && lowest b l) g in
       let low = Cases.and-true (Cycle.enters p b (l .flow)) (lowest b l) (w .1) .1 in
-      let serial = eqb-true (l .serial) (enteredOf b (l .flow) + 1) (sym (lowest-next b (o .lawful .queued) l m (w .0)) ∙ low) in
-      let D = waits-fresh p b (flowAt p (l .flow)) (b .clock) (l .D) (l .stage) (w .0) (o .lawful .traced .sound l m) in
+      let serial = eqb-true (l .serial) (enteredOf b (l .flow) + 1) (sym (lowest-next b (k .lawful .queued) l m (w .0)) ∙ low) in
+      let D = waits-fresh p b (flowAt p (l .flow)) (b .clock) (l .D) (l .stage) (w .0) (k .lawful .traced .sound l m) in
       let entry = new-entry (turn p b l) in
       λ i. Packet (l .flow) (serial i) (entry i) (D i)
     where
@@ -109,9 +109,9 @@ module _ (p : Plan) (b : Book) (o : Kept p b) where
     none-enters h =
         keep-none (client p b x y port) (b .lines)
         (λ l m.
-        let below = o .lawful .traced .known l m in
+        let below = k .lawful .traced .known l m in
         out (isWaiting (l .stage)) (Cycle.enters p b (l .flow)) (lowest b l) (takes (l .flow))
-        (rw (← (uses-same (l .flow)), ← (enters-same p b o (l .flow) below)) (none-at (admits s x y port) (length (p .flows)) h (l .flow) below)))
+        (rw (← (uses-same (l .flow)), ← (enters-same p b k (l .flow) below)) (none-at (admits s x y port) (length (p .flows)) h (l .flow) below)))
       where
         out : (w en low at : Bool) → at && en ≡ false → (w && (en && low)) && at ≡ false
         out w en low false h = and-false (w && (en && low))
@@ -122,7 +122,7 @@ module _ (p : Plan) (b : Book) (o : Kept p b) where
     -- flow f does
     module _ (f : ℕ) (below : f < length (p .flows)) (yes′ : admits s x y port f ≡ true) where
       f-enters : Cycle.enters p b f ≡ true
-      f-enters = sym (enters-same p b o f below) ∙ Cases.and-true (uses s x y port f) (Entry.enters s f) yes′ .1
+      f-enters = sym (enters-same p b k f below) ∙ Cases.and-true (uses s x y port f) (Entry.enters s f) yes′ .1
 
       f-takes : takes f ≡ true
       f-takes = sym (uses-same f) ∙ Cases.and-true (uses s x y port f) (Entry.enters s f) yes′ .0
@@ -139,19 +139,20 @@ module _ (p : Plan) (b : Book) (o : Kept p b) where
               let φ : Flow = flowAt p f in
               let u = Cases.and-true (eqb x (φ .xs) && eqb y (φ .ys)) (samePort (portOf (p .sx) φ) port) f-takes in
               let v = Cases.and-true (eqb x (φ .xs)) (eqb y (φ .ys)) (u .0) in
-              one-enters p b (l .flow) f (h .entering) f-enters (client-same (flowAt p (l .flow)) φ (sym (h .column) ∙ eqb-true _ _ (v .0)) (sym (h .row) ∙ eqb-true _ _ (v .1)))
+              one-enters p b (l .flow) f (h .entering) f-enters
+              (client-same (flowAt p (l .flow)) φ (sym (h .column) ∙ eqb-true _ _ (v .0)) (sym (h .row) ∙ eqb-true _ _ (v .1)))
 
       -- one line, with the packet that the client sends
       one-sent : (l : Line) × (keep (client p b x y port) (b .lines) ≡ l ∷ []) × (packetOf (move p b l) ≡ entering s f)
       unfolding bookState
       one-sent =
           let t : Line → Bool = λ l. ofFlow f l && goes p b l in
-          let n = goes-count b (o .lawful .queued) p f in
+          let n = goes-count b (k .lawful .queued) p f in
           let c : count t (b .lines) ≡ 1 = n ∙ ap one f-enters in
           let l = count-find t (b .lines) (omega arith) in
           let h = Cases.and-true (ofFlow f (l .0)) (goes p b (l .0)) (l .2) in (
             l .0,
-            keep-same (client p b x y port) t (b .lines) (λ k m. who-enters k) ∙ keep-one t (b .lines) (omega arith) (l .0) (l .1) (l .2),
+            keep-same (client p b x y port) t (b .lines) (λ l m. who-enters l) ∙ keep-one t (b .lines) (omega arith) (l .0) (l .1) (l .2),
             packet-enters (l .0) (l .1) (h .1) ∙ rw (eqb-true (l .0 .flow) f (h .0), tally-at p b f below),
           )
 

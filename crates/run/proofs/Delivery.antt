@@ -41,7 +41,7 @@ words-append (x ∷ d) e = rw (words-append d e)
 abbrev leavers : Plan → Book → (x y : ℕ) → List Line
 leavers p b x y = keep (λ l. leftAt (b .clock) x y (l .stage)) ((stepped p b) .lines)
 
-module _ (p : Plan) (b : Book) (ord : Kept p b) where
+module _ (p : Plan) (b : Book) (k : Kept p b) where
   record Router (x y : ℕ) : Type 0 where
     words : delivered (bookState p b) x y ≡ wordsOf (map deliveryOf (leavers p b x y))
     count : one (exits (bookState p b) x y) ≡ length (leavers p b x y)
@@ -49,18 +49,19 @@ module _ (p : Plan) (b : Book) (ord : Kept p b) where
   router : (x y : ℕ) → x < p .sx → y < p .sy → Router x y
   unfolding delivered bookState atHome
   router x y lx ly =
-      let k = left-tells p (b .clock) x y lx ly in
-      let e = new-lines p b ord x y South (leftAt (b .clock) x y) (isHome x y) k in
-      elim (southbound p b ord x y lx ly) [
+      let tells = left-tells p (b .clock) x y lx ly in
+      let e = new-lines p b k x y South (leftAt (b .clock) x y) (isHome x y) tells in
+      elim (southbound p b k x y lx ly) [
         | inl none ↦ record { words = rw (e, none .0, none .1); count = rw (e, none .0, none .1) }
         | inr some ↦
             let l : Line = some .0 in
+            let m = some .1 .member in
             elim (test (isHome x y (flowAt p (l .flow)))) [
               | inr away ↦
                   record { words = rw (e, some .1 .only, some .1 .held, away); count = rw (e, some .1 .only, some .1 .held, away) }
               | inl home ↦
                   let gone : leftAt (b .clock) x y ((move p b l) .stage) ≡ true =
-                  moved p b x y South _ _ k l (l .D) (l .stage) (line-ok p (ord .lawful .plan) b (ord .lawful .traced) l (some .1 .member)) (ord .lawful .traced .sound l (some .1 .member))
+                  moved p b x y South _ _ tells l (l .D) (l .stage) (line-ok p (k .lawful .plan) b (k .lawful .traced) l m) (k .lawful .traced .sound l m)
                   ∙ rw (some .1 .sent, home) in
                   let exit = left-exit (b .clock) x y ((move p b l) .stage) gone in
                   record {

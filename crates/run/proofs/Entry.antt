@@ -21,15 +21,15 @@ use Rattle.book.proofs.Kept.{Kept}
 use Rattle.run.specs.View.{cellOf, bookState}
 use Rattle.run.proofs.View.{tally-at, cell-at, empty-register, west-turns}
 
-module _ (p : Plan) (b : Book) (o : Kept p b) where
+module _ (p : Plan) (b : Book) (k : Kept p b) where
   pub open-same : (x y : ℕ) (port : Port) → portOpen p x (cellOf b x y) port ≡ isOpen p b x y port
   open-same x y East = empty-register p b (W x y)
-  open-same x y South = rw (empty-register p b (N x y), west-turns p b (o .apart) x y)
+  open-same x y South = rw (empty-register p b (N x y), west-turns p b (k .apart) x y)
 
   pub ready-same : (f : ℕ) → f < length (p .flows) → Entry.ready (bookState p b) f ≡ Cycle.ready p b f
   unfolding Entry.ready Cycle.ready bookState
   ready-same f l =
-      let ok = o .lawful .plan .flow-ok f l in
+      let ok = k .lawful .plan .flow-ok f l in
       let φ : Flow = flowAt p f in
       rw (
         tally-at p b f l,
@@ -44,5 +44,5 @@ module _ (p : Plan) (b : Book) (o : Kept p b) where
       rw (
         ready-same f l,
         any-same (λ g. sameClient (flowAt p f) (flowAt p g) && Entry.ready (bookState p b) g) (λ g. sameClient (flowAt p f) (flowAt p g) && Cycle.ready p b g) f
-            (λ g k. rw (ready-same g (omega arith))),
+            (λ g l′. rw (ready-same g (omega arith))),
       )

@@ -125,7 +125,8 @@ module _ (p : Plan) (b : Book) (k : Kept p b) (w : List ℕ) (h : Stands 0 w 0 (
   register-fits place at st =
       rw (register-read w at (registerOf b place) st) (by-lines (keep (placedIn place) (b .lines)) (λ l m. kept (placedIn place) (b .lines) m) st)
     where
-      by-lines : (ls : List Line) → ((l : Line) → Mem l ls → Mem l (b .lines) × (placedIn place l ≡ true)) → Stands 0 w at (registerWords (holding ls)) → contentsFit w place at (holding ls) ≡ true
+      by-lines : (ls : List Line) → ((l : Line) → Mem l ls → Mem l (b .lines) × (placedIn place l ≡ true))
+          → Stands 0 w at (registerWords (holding ls)) → contentsFit w place at (holding ls) ≡ true
       by-lines [] inside st = rw (st .same 0 (omega arith), st .same 1 (omega arith), st .same 2 (omega arith), st .same 3 (omega arith))
       by-lines (l ∷ ls) inside st =
           let m = inside l (here refl) in
@@ -151,7 +152,10 @@ module _ (p : Plan) (b : Book) (k : Kept p b) (w : List ℕ) (h : Stands 0 w 0 (
   cell-fits x y lx ly =
       let st : Stands 0 w (routerIn w x y) (cellWords (cellOf b x y)) =
       rw (count-is, sx-is) (rw (cell-at p b x y lx ly) at (part (bookState p b) w h _ _ (cell-stands (bookState p b) x y lx ly))) in
-      rw (register-fits (W x y) (routerIn w x y) (west-stands w (routerIn w x y) (cellOf b x y) st), register-fits (N x y) (routerIn w x y + registerSize) (north-stands w (routerIn w x y) (cellOf b x y) st))
+      rw (
+        register-fits (W x y) (routerIn w x y) (west-stands w (routerIn w x y) (cellOf b x y) st),
+        register-fits (N x y) (routerIn w x y + registerSize) (north-stands w (routerIn w x y) (cellOf b x y) st),
+      )
 
   rest-fits : restFits w ≡ true
   unfolding restFits

@@ -71,6 +71,8 @@ module _ (p : Plan) (b : Book) (f : ℕ) (below : f < length (p .flows)) where
   offer-follows =
       let old = tabulate (length (p .flows)) (tallyOf b) in
       let here = ap (λ (t : Tally). set old f (record { bucket = t .bucket; entered = t .entered; waiting = t .waiting + 1 })) (tally-at p b f below) in
-      let tallies = here ∙ is-tabulate (set old f after) (length (p .flows)) (tallyOf (offered b f)) (freshTally 0) (length-set old f after ∙ length-tabulate (length (p .flows)) (tallyOf b)) offer-tally in
-      let cells = grid-same (p .sx) (p .sy) (cellOf b) (cellOf (offered b f)) (λ x y lx ly. λ i. record { west = offer-register (W x y) i; north = offer-register (N x y) i }) in
+      let long = length-set old f after ∙ length-tabulate (length (p .flows)) (tallyOf b) in
+      let tallies = here ∙ is-tabulate (set old f after) (length (p .flows)) (tallyOf (offered b f)) (freshTally 0) long offer-tally in
+      let cells = grid-same (p .sx) (p .sy) (cellOf b) (cellOf (offered b f))
+      (λ x y lx ly. λ i. record { west = offer-register (W x y) i; north = offer-register (N x y) i }) in
       λ i. record { plan = p; clock = b .clock; tallies = tallies i; cells = cells i }

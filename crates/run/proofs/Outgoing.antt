@@ -1,5 +1,5 @@
--- The lines that a router sends by a port: the one in W or N that takes it, else the one that enters (01, One cycle, rules 1
--- and 3). Rests on Sends.
+-- The lines that a router sends by a port, from W, from N or from its client, and what becomes of the packet in a register
+-- (01, One cycle, rules 1 and 3). Rests on View.
 use mathlib.Core.Bool.{Bool, true, false, cond, _&&_, _||_, false≢true, and-true, or-false}
 use mathlib.Core.List.{List, [], _∷_, map, List·Memᴰ as Mem, List·Memᴰ·head as here}
 use mathlib.Core.Logic.{inl, inr}
