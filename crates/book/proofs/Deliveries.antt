@@ -6,12 +6,11 @@ use mathlib.Core.Logic.{inl, inr}
 use mathlib.Core.Path.{_≡_, refl, sym, _∙_}
 use Prim.Native.Nat.{ℕ, _+_, _<_}
 use native.Mathlib.Nat.{add-zero}
-use native.Mathlib.Decide.{ℕ-discrete}
 use native.Mathlib.Omega.{arith}
 use borrow.Author.Tests.{eq-eqb, ne-eqb}
 use lib.Dec.{eqb}
 use Rattle.laws.specs.Count.{one, count, keep, joinBelow}
-use Rattle.laws.proofs.Cases.{test}
+use Rattle.laws.proofs.Cases.{test, eqb-swap}
 use Rattle.laws.proofs.Sum.{sum-same}
 use Rattle.laws.proofs.Count.{count-map, count-same, count-sum, count-keep, count-join, count-split}
 use Rattle.flow.specs.declared.Flow.{Flow}
@@ -40,9 +39,6 @@ abbrev rowLeft : Stage → ℕ
 rowLeft waiting = 0
 rowLeft (placed e at) = 0
 rowLeft (left e t x y) = y
-
-eqb-swap : (m n : ℕ) → eqb m n ≡ eqb n m
-eqb-swap m n = elim (ℕ-discrete m n) [ yes e ↦ rw (eq-eqb m n e, eq-eqb n m (sym e)) | no e ↦ rw (ne-eqb m n e, ne-eqb n m (λ h. e (sym h))) ]
 
 left-at : (c x y : ℕ) (t : Bool) (s : Stage) → leftAt c x y s && t ≡ eqb (columnLeft s) x && (eqb (rowLeft s) y && (leftIn c s && t))
 left-at c x y t waiting = rw (and-false (eqb 0 y)) (sym (and-false (eqb 0 x)))

@@ -51,7 +51,7 @@ module _ (p : Plan) (b : Book) (x y : ℕ) where
   abbrev fromNorth : Port → Stage → Bool
   fromNorth o s = standsIn (N x y) s && samePort (cond (not (westTurns p b x y)) South East) o
 
-  abbrev fromClient : Port → Line → Stage → Bool
+  abbrev pub fromClient : Port → Line → Stage → Bool
   fromClient o l s =
       let φ : Flow = flowAt p (l .flow) in
       isWaiting s && (enters p b (l .flow) && lowest b l) && (eqb x (φ .xs) && eqb y (φ .ys) && samePort (portOf (p .sx) φ) o)
@@ -62,7 +62,7 @@ module _ (p : Plan) (b : Book) (x y : ℕ) where
   abbrev north : Port → Line → Bool
   north o l = fromNorth o (l .stage)
 
-  abbrev client : Port → Line → Bool
+  abbrev pub client : Port → Line → Bool
   client o l = fromClient o l (l .stage)
 
   source : (o : Port) (l : Line) (s : Stage) → one (leaves p b l x y o s) ≡ one (fromWest o l s) + one (fromNorth o s || fromClient o l s)
@@ -95,15 +95,15 @@ module _ (p : Plan) (b : Book) (x y : ℕ) where
   full-mem at l m h = any-mem (λ (k : Line). standsIn at (k .stage)) (b .lines) m h
 
   -- a line of the client that enters by this output
-  record Entering (o : Port) (l : Line) : Type 0 where
-    waits : isWaiting (l .stage) ≡ true
-    entering : enters p b (l .flow) ≡ true
-    first : lowest b l ≡ true
-    column : x ≡ (flowAt p (l .flow)) .xs
-    row : y ≡ (flowAt p (l .flow)) .ys
-    port : portOf (p .sx) (flowAt p (l .flow)) ≡ o
+  pub record Entering (o : Port) (l : Line) : Type 0 where
+    pub waits : isWaiting (l .stage) ≡ true
+    pub entering : enters p b (l .flow) ≡ true
+    pub first : lowest b l ≡ true
+    pub column : x ≡ (flowAt p (l .flow)) .xs
+    pub row : y ≡ (flowAt p (l .flow)) .ys
+    pub port : portOf (p .sx) (flowAt p (l .flow)) ≡ o
 
-  client-parts : (o : Port) (l : Line) → client o l ≡ true → Entering o l
+  pub client-parts : (o : Port) (l : Line) → client o l ≡ true → Entering o l
   client-parts o l t =
       let φ : Flow = flowAt p (l .flow) in
       let a = and-true _ _ t in
@@ -121,12 +121,12 @@ module _ (p : Plan) (b : Book) (x y : ℕ) where
       }
 
   -- a client's packet leaves by an open output, and of one client only one
+  pub client-opens : (o : Port) (l : Line) → client o l ≡ true → isOpen p b x y o ≡ true
+  client-opens o l t =
+      let h = client-parts o l t in rw (h .column, h .row, ← (h .port)) (entering-ready p b (l .flow) (h .entering) .opened)
+
   client-open : (o : Port) → any (client o) (b .lines) ≡ true → isOpen p b x y o ≡ true
-  client-open o c =
-      let z = any-true (client o) (b .lines) c in opens (z .0) (client-parts o (z .0) (z .2))
-    where
-      opens : (l : Line) → Entering o l → isOpen p b x y o ≡ true
-      opens l h = rw (h .column, h .row, ← (h .port)) (entering-ready p b (l .flow) (h .entering) .opened)
+  client-open o c = let z = any-true (client o) (b .lines) c in client-opens o (z .0) (z .2)
 
   client-one : (o : Port) → Queued b → count (client o) (b .lines) ≤ 1
   client-one o q =

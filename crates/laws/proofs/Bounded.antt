@@ -58,6 +58,12 @@ unfolding anyBelow
 none-below p zero h = refl
 none-below p (suc n) h = rw (none-below p n (λ i l. h i (omega arith)), h n (omega arith))
 
+-- equal tests, equal findings
+pub any-same : (p q : ℕ → Bool) (n : ℕ) → ((i : ℕ) → i < n → p i ≡ q i) → anyBelow n p ≡ anyBelow n q
+unfolding anyBelow
+any-same p q zero h = refl
+any-same p q (suc n) h = rw (any-same p q n (λ i l. h i (omega arith)), h n (omega arith))
+
 pub none-at : (p : ℕ → Bool) (n : ℕ) → anyBelow n p ≡ false → (i : ℕ) → i < n → p i ≡ false
 unfolding anyBelow
 none-at p zero h i l = absurd (omega arith)

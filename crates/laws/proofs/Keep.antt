@@ -1,15 +1,15 @@
 -- Laws of the members that pass a test, and of lists joined end to end. Rests on specs/Count.
-use mathlib.Core.Bool.{Bool, true, false, cond, not, _&&_, _||_, false≢true}
-use mathlib.Core.List.{List, [], _∷_, _++_, map, append-nil, append-assoc, List·Memᴰ as Mem, List·Memᴰ·head as here, List·Memᴰ·tail as there}
+use mathlib.Core.Bool.{Bool, true, false, _&&_}
+use mathlib.Core.List.{List, [], _∷_, _++_, map, List·Memᴰ as Mem, List·Memᴰ·head as here, List·Memᴰ·tail as there}
 use mathlib.Core.Logic.{_⊎_, inl, inr}
-use mathlib.Core.Path.{_≡_, refl, sym, ap, ap₂, _∙_}
-use Prim.Native.Nat.{ℕ, zero, suc, _+_, _≤_, _<_}
+use mathlib.Core.Path.{_≡_, refl, _∙_}
+use Prim.Native.Nat.{ℕ, zero, suc, _≤_}
 use native.Mathlib.Omega.{arith}
 use lib.Dec.{ltb}
 use lib.ListN.{length, length-append}
-use borrow.Author.Tests.{lt-ltb, le-ltb}
+use borrow.Author.Tests.{lt-ltb}
 use Rattle.laws.specs.Bounded.{sumBelow}
-use Rattle.laws.specs.Count.{one, count, any, keep, joinBelow}
+use Rattle.laws.specs.Count.{count, any, keep, joinBelow}
 use Rattle.laws.proofs.Cases.{test}
 use Rattle.laws.proofs.Count.{any-count, none-count, mem-count}
 
@@ -18,6 +18,10 @@ module _ {A : Type 0} where
   pub keep-same : (t u : A → Bool) (l : List A) → ((x : A) → Mem x l → t x ≡ u x) → keep t l ≡ keep u l
   keep-same t u [] h = refl
   keep-same t u (z ∷ l) h = rw (h z (here refl), keep-same t u l (λ x m. h x (there m)))
+
+  pub keep-all : (l : List A) → keep (λ x. true) l ≡ l
+  keep-all [] = refl
+  keep-all (z ∷ l) = rw (keep-all l)
 
   pub keep-none : (t : A → Bool) (l : List A) → ((x : A) → Mem x l → t x ≡ false) → keep t l ≡ []
   keep-none t [] h = refl

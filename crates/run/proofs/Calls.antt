@@ -1,30 +1,24 @@
 -- Each call on state memory that holds the words of a book: its answer and all memory lent are the book's. Rests on Memory,
 -- Offer, Step and Delivery.
-use mathlib.Core.Bool.{Bool, true, false, cond}
-use mathlib.Core.List.{List, [], _∷_, _++_}
-use mathlib.Core.Logic.{_⊎_, inl, inr}
-use mathlib.Core.Path.{_≡_, refl, sym, ap, _∙_}
-use Prim.Native.Nat.{ℕ, zero, suc, _≤_, _<_}
-use native.Mathlib.Omega.{arith}
+use mathlib.Core.List.{List}
+use mathlib.Core.Logic.{inl, inr}
+use mathlib.Core.Path.{_≡_}
+use Prim.Native.Nat.{ℕ}
 use borrow.Author.Tests.{leb-false}
 use lib.Dec.{ltb, leb, eqb}
-use lib.ListN.{length, take}
+use lib.ListN.{length}
 use Rattle.laws.proofs.Cases.{test}
 use Rattle.flow.specs.Plan.{Plan}
-use Rattle.plan.specs.declared.Answer.{Answer}
-use Rattle.plan.specs.declared.Answer.the-variants.{Done, Refused}
+use Rattle.plan.specs.declared.Answer.the-variants.{Refused}
 use Rattle.book.specs.Book.{Book, waitingOf}
 use Rattle.book.specs.Cycle.{wordsOf}
 use Rattle.book.specs.Calls.{Fed, feed, refusal, roomFor, lastClock, mostWaiting}
 use Rattle.book.specs.Calls as BookCalls
 use Rattle.book.proofs.Kept.{Kept}
-use Rattle.state.specs.declared.Tally.{Tally}
-use Rattle.state.specs.State.{tallyAt}
-use Rattle.state.specs.Outcome.{Outcome, outcome, refused, unless, over}
+use Rattle.state.specs.Outcome.{outcome, refused, unless, over}
 use Rattle.state.specs.Forms.{stateNumber}
-use Rattle.state.specs.Calls.{planSize, writeOn}
-use Rattle.cycle.specs.Calls.{StepOutcome, stepOutcome, offerOn, unlessStep, stepNumber, stepOn}
-use Rattle.run.specs.View.{bookState}
+use Rattle.state.specs.Calls.{writeOn}
+use Rattle.cycle.specs.Calls.{stepOutcome, offerOn, unlessStep, stepNumber, stepOn}
 use Rattle.run.specs.List.{answerOf, written}
 use Rattle.run.proofs.View.{tally-at}
 use Rattle.run.proofs.Step.{step-follows}

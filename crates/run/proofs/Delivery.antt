@@ -1,14 +1,12 @@
 -- What a cycle delivers on the state of a book is what the book delivers, in the same order (01, One cycle). Rests on Step.
-use mathlib.Core.Bool.{Bool, true, false, cond, not, _&&_, false≢true}
-use mathlib.Core.List.{List, [], _∷_, _++_, map, append-assoc, List·Memᴰ as Mem}
-use mathlib.Core.Logic.{_⊎_, inl, inr}
-use mathlib.Core.Path.{_≡_, refl, sym, ap, _∙_}
-use Prim.Native.Nat.{ℕ, zero, suc, _+_, _≤_, _<_}
-use native.Mathlib.Omega.{arith}
+use mathlib.Core.Bool.{true, _&&_, false≢true}
+use mathlib.Core.List.{List, [], _∷_, _++_, map}
+use mathlib.Core.Logic.{inl, inr}
+use mathlib.Core.Path.{_≡_, refl, sym, _∙_}
+use Prim.Native.Nat.{ℕ, _<_}
 use borrow.Author.Tests.{eqb-true}
 use lib.Dec.{eqb}
 use lib.ListN.{length, length-map}
-use Rattle.laws.specs.Bounded.{sumBelow}
 use Rattle.laws.specs.Count.{one, keep, joinBelow}
 use Rattle.laws.proofs.Cases.{test}
 use Rattle.laws.proofs.Cases as Cases
@@ -19,10 +17,10 @@ use Rattle.flow.specs.declared.Port.the-variants.{South}
 use Rattle.flow.specs.Plan.{Plan, flowAt}
 use Rattle.book.specs.Line.{Stage, waiting, placed, left, Line, leftAt, exitOf}
 use Rattle.book.specs.Book.{Book}
-use Rattle.book.specs.Cycle.{move, moveStage, stepped, Delivery, deliveryOf, exitsOf, deliveries, wordsOf}
+use Rattle.book.specs.Cycle.{move, stepped, Delivery, deliveryOf, exitsOf, deliveries, wordsOf}
 use Rattle.book.proofs.Traced.{line-ok}
 use Rattle.cycle.specs.Router.{atHome}
-use Rattle.cycle.specs.Step.{exits, southward, delivered, stepDelivers}
+use Rattle.cycle.specs.Step.{exits, delivered, stepDelivers}
 use Rattle.cycle.specs.Calls.{exitCount}
 use Rattle.book.proofs.Kept.{Kept}
 use Rattle.run.specs.View.{bookState}
@@ -43,7 +41,7 @@ words-append (x ∷ d) e = rw (words-append d e)
 abbrev leavers : Plan → Book → (x y : ℕ) → List Line
 leavers p b x y = keep (λ l. leftAt (b .clock) x y (l .stage)) ((stepped p b) .lines)
 
-module _ (p : Plan) (b : Book) (ord : Kept p b) where
+module _ (p : Plan) (b : Book) (k : Kept p b) where
   record Router (x y : ℕ) : Type 0 where
     words : delivered (bookState p b) x y ≡ wordsOf (map deliveryOf (leavers p b x y))
     count : one (exits (bookState p b) x y) ≡ length (leavers p b x y)
@@ -51,18 +49,19 @@ module _ (p : Plan) (b : Book) (ord : Kept p b) where
   router : (x y : ℕ) → x < p .sx → y < p .sy → Router x y
   unfolding delivered bookState atHome
   router x y lx ly =
-      let k = left-tells p (b .clock) x y lx ly in
-      let e = new-lines p b ord x y South (leftAt (b .clock) x y) (isHome x y) k in
-      elim (southbound p b ord x y lx ly) [
+      let tells = left-tells p (b .clock) x y lx ly in
+      let e = new-lines p b k x y South (leftAt (b .clock) x y) (isHome x y) tells in
+      elim (southbound p b k x y lx ly) [
         | inl none ↦ record { words = rw (e, none .0, none .1); count = rw (e, none .0, none .1) }
         | inr some ↦
             let l : Line = some .0 in
+            let m = some .1 .member in
             elim (test (isHome x y (flowAt p (l .flow)))) [
               | inr away ↦
                   record { words = rw (e, some .1 .only, some .1 .held, away); count = rw (e, some .1 .only, some .1 .held, away) }
               | inl home ↦
                   let gone : leftAt (b .clock) x y ((move p b l) .stage) ≡ true =
-                  moved p b x y South _ _ k l (l .D) (l .stage) (line-ok p (ord .lawful .plan) b (ord .lawful .traced) l (some .1 .member)) (ord .lawful .traced .sound l (some .1 .member))
+                  moved p b x y South _ _ tells l (l .D) (l .stage) (line-ok p (k .lawful .plan) b (k .lawful .traced) l m) (k .lawful .traced .sound l m)
                   ∙ rw (some .1 .sent, home) in
                   let exit = left-exit (b .clock) x y ((move p b l) .stage) gone in
                   record {

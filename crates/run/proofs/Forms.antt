@@ -1,42 +1,37 @@
 -- The words of a book form a state, so 9 never comes up (01, State memory; The packet book). Rests on the book's promises and on
 -- the laws of a state's words.
-use mathlib.Core.Bool.{Bool, true, false, cond, not, _&&_, false≢true}
+use mathlib.Core.Bool.{true, false≢true}
 use mathlib.Core.List.{List, [], _∷_, List·Memᴰ as Mem, List·Memᴰ·head as here}
-use mathlib.Core.Path.{_≡_, refl, sym, ap, _∙_}
-use Prim.Native.Nat.{ℕ, zero, suc, _+_, _-_, _*_, _≤_, _<_}
-use native.Mathlib.Nat.{add-zero}
+use mathlib.Core.Path.{_≡_, refl, ap, _∙_}
+use Prim.Native.Nat.{ℕ, _+_, _-_, _≤_, _<_}
 use native.Mathlib.Omega.{arith}
-use borrow.Author.Tests.{lt-ltb, le-ltb, le-leb, eqb-true}
-use lib.Dec.{ltb, leb, eqb}
-use lib.ListN.{length, getD}
+use borrow.Author.Tests.{lt-ltb, le-ltb, le-leb}
+use lib.ListN.{length}
 use Rattle.laws.specs.Bounded.{allBelow}
 use Rattle.laws.specs.Count.{keep}
-use Rattle.laws.proofs.Cases.{and-true}
 use Rattle.laws.proofs.Bounded.{all-intro}
 use Rattle.laws.proofs.Keep.{kept}
 use Rattle.laws.proofs.Stands.{Stands}
 use Rattle.flow.specs.declared.Flow.{Flow}
 use Rattle.flow.specs.Plan.{Plan, flowAt, FlowOk, mostSize, mostFlows, mostPeriod, mostBurst}
-use Rattle.book.specs.Line.{Place, W, N, samePlace, Stage, waiting, placed, left, Line, standsIn, entryOf}
+use Rattle.book.specs.Line.{Place, W, N, Stage, waiting, placed, left, Line, standsIn, entryOf}
 use Rattle.book.specs.Book.{Book, waitingOf, enteredOf}
 use Rattle.book.specs.Calls.{mostWaiting}
 use Rattle.book.specs.InPlace.{inPlace}
 use Rattle.book.specs.Promises.{InState}
 use Rattle.book.proofs.Kept.{Kept}
 use Rattle.book.proofs.Promises.{in-state, flow-in-state}
-use Rattle.state.specs.declared.Register.{Register}
-use Rattle.state.specs.declared.Register.the-variants.{Empty, Packet}
 use Rattle.state.specs.declared.Tally.{Tally}
-use Rattle.state.specs.Layout.{headerSize, registerSize, flowPlace, routerPlace}
-use Rattle.state.specs.State.{State, tallyAt, cellAt}
-use Rattle.state.specs.Words.{headerWords, registerWords, cellWords, stateWords}
-use Rattle.state.specs.Read.{sxIn, syIn, countIn, clockIn, flowIn, tallyIn, registerIn, routerIn}
+use Rattle.state.specs.Layout.{headerSize, registerSize, flowPlace}
+use Rattle.state.specs.State.{State}
+use Rattle.state.specs.Words.{registerWords, cellWords, stateWords}
+use Rattle.state.specs.Read.{sxIn, syIn, countIn, clockIn, flowIn, tallyIn, routerIn}
 use Rattle.state.specs.Forms.{headerFits, numbersFit, tallyFits, flowFits, contentsFit, registerFits, cellFits, restFits, sizeIn, stateNumber}
 use Rattle.state.specs.Calls.{planSize}
 use Rattle.state.proofs.Words.{length-words, header-stands, cell-stands}
 use Rattle.state.proofs.Read.{register-read, west-stands, north-stands, part, sx-read, sy-read, count-read, clock-read, flow-at-read, tally-at-read}
 use Rattle.run.specs.View.{holding, placedIn, registerOf, cellOf, tallyOf, bookState}
-use Rattle.run.proofs.View.{tally-at, cell-at}
+use Rattle.run.proofs.View.{place-same, tally-at, cell-at}
 
 numbers-fit : (sx sy : ℕ) (f : Flow) → FlowOk sx sy f → numbersFit sx sy f ≡ true
 unfolding numbersFit
@@ -51,12 +46,6 @@ numbers-fit sx sy f ok =
       le-leb 1 (f .burst) (ok .burst-least),
       le-leb (f .burst) mostBurst (ok .burst-most),
     )
-
-place-same : (at at′ : Place) → samePlace at at′ ≡ true → at′ ≡ at
-place-same (W x y) (W x′ y′) e = let h = and-true (eqb x x′) (eqb y y′) e in rw (eqb-true x x′ (h .0), eqb-true y y′ (h .1))
-place-same (W x y) (N x′ y′) e = absurd (false≢true e)
-place-same (N x y) (W x′ y′) e = absurd (false≢true e)
-place-same (N x y) (N x′ y′) e = let h = and-true (eqb x x′) (eqb y y′) e in rw (eqb-true x x′ (h .0), eqb-true y y′ (h .1))
 
 -- what 01 asks of the packet of a line in this register
 record InRegister (p : Plan) (b : Book) (l : Line) (at : Place) (entry : ℕ) : Type 0 where
@@ -136,7 +125,8 @@ module _ (p : Plan) (b : Book) (k : Kept p b) (w : List ℕ) (h : Stands 0 w 0 (
   register-fits place at st =
       rw (register-read w at (registerOf b place) st) (by-lines (keep (placedIn place) (b .lines)) (λ l m. kept (placedIn place) (b .lines) m) st)
     where
-      by-lines : (ls : List Line) → ((l : Line) → Mem l ls → Mem l (b .lines) × (placedIn place l ≡ true)) → Stands 0 w at (registerWords (holding ls)) → contentsFit w place at (holding ls) ≡ true
+      by-lines : (ls : List Line) → ((l : Line) → Mem l ls → Mem l (b .lines) × (placedIn place l ≡ true))
+          → Stands 0 w at (registerWords (holding ls)) → contentsFit w place at (holding ls) ≡ true
       by-lines [] inside st = rw (st .same 0 (omega arith), st .same 1 (omega arith), st .same 2 (omega arith), st .same 3 (omega arith))
       by-lines (l ∷ ls) inside st =
           let m = inside l (here refl) in
@@ -162,7 +152,10 @@ module _ (p : Plan) (b : Book) (k : Kept p b) (w : List ℕ) (h : Stands 0 w 0 (
   cell-fits x y lx ly =
       let st : Stands 0 w (routerIn w x y) (cellWords (cellOf b x y)) =
       rw (count-is, sx-is) (rw (cell-at p b x y lx ly) at (part (bookState p b) w h _ _ (cell-stands (bookState p b) x y lx ly))) in
-      rw (register-fits (W x y) (routerIn w x y) (west-stands w (routerIn w x y) (cellOf b x y) st), register-fits (N x y) (routerIn w x y + registerSize) (north-stands w (routerIn w x y) (cellOf b x y) st))
+      rw (
+        register-fits (W x y) (routerIn w x y) (west-stands w (routerIn w x y) (cellOf b x y) st),
+        register-fits (N x y) (routerIn w x y + registerSize) (north-stands w (routerIn w x y) (cellOf b x y) st),
+      )
 
   rest-fits : restFits w ≡ true
   unfolding restFits

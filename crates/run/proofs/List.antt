@@ -3,30 +3,31 @@
 use mathlib.Core.List.{List, [], _∷_, _++_}
 use mathlib.Core.Logic.{inl, inr}
 use mathlib.Core.Path.{_≡_, refl, sym, ap, subst, _∙_}
-use Prim.Native.Nat.{ℕ, _+_, _*_, _≤_, _<_}
+use Prim.Native.Nat.{ℕ, _*_, _≤_}
 use native.Mathlib.Omega.{arith}
 use lib.Dec.{leb}
-use lib.ListN.{length, getD, take, drop, take-append-drop}
+use lib.ListN.{length, take, drop, take-append-drop}
 use lib.Seq.{take-at}
 use Rattle.laws.proofs.Cases.{test}
 use Rattle.flow.specs.Plan.{Plan}
-use Rattle.plan.specs.declared.Answer.the-variants.{Done, Refused}
+use Rattle.plan.specs.declared.Answer.the-variants.{Refused}
 use Rattle.plan.specs.Layout.{planOf}
 use Rattle.plan.proofs.Ranges.{plan-ok}
 use Rattle.book.specs.Book.{Book, start, waitingOf}
 use Rattle.book.specs.Cycle.{Delivery, deliveries, wordsOf}
 use Rattle.book.specs.Calls.{Fed, feed, refusal, mostWaiting, runFrom}
 use Rattle.book.specs.Calls as BookCalls
-use Rattle.book.proofs.Kept.{Kept, feed-cases, kept-start, kept-feed}
+use Rattle.book.proofs.Kept.{Kept, feed-cases, kept-start, kept-feed, kept-run}
 use Rattle.book.proofs.Promises.{promises}
 use Rattle.state.specs.Words.{stateWords}
+use Rattle.state.specs.Forms.{stateNumber}
 use Rattle.state.specs.Outcome.{Outcome, outcome, over}
 use Rattle.state.specs.Calls.{planSize, resetOn}
 use Rattle.cycle.specs.Calls.{StepOutcome}
-use Rattle.run.specs.List.{Call, offer, step, write, reset, Entry, whole, first, result, after, MayCome, IsList, memoryAfter, outcomes, wordCount, deliveredBy, deliveredWords, fed, answerOf, written, tooLittle, expected, EveryList}
+use Rattle.run.specs.List.{Call, offer, step, write, reset, Entry, whole, first, result, after, MayCome, IsList, memoryAfter, outcomes, wordCount, deliveredBy, deliveredWords, fed, answerOf, written, tooLittle, expected, bookRun, EveryList}
 use Rattle.run.proofs.Delivery.{words-append}
 use Rattle.run.proofs.Offer.{start-follows}
-use Rattle.run.proofs.Memory.{image, short}
+use Rattle.run.proofs.Memory.{image, number, short}
 use Rattle.run.proofs.Calls.{offer-on, step-on, write-on, short-offer, short-step, short-write}
 use Rattle.run.proofs.Reset.{reset-accepted, reset-refused}
 
@@ -175,5 +176,6 @@ every-list file words bytes accepted es l =
       answered = ap (λ m. outcomes m es) begun ∙ g .answered;
       delivered = ap (λ m. deliveredWords m es) begun ∙ g .delivered;
       state = ap (λ m. memoryAfter m es) begun ∙ g .state;
+      formed = ap stateNumber (ap (λ m. memoryAfter m es) begun ∙ g .state) ∙ number p (bookRun p es .book) words (kept-run p ok (fed es));
       promised = promises p ok (fed es);
     }

@@ -1,13 +1,11 @@
 -- State memory that holds the words of a book, read whole or in part. Rests on Forms and on the laws of a state's words.
-use mathlib.Core.Bool.{Bool, true, false, cond, not, _&&_}
-use mathlib.Core.List.{List, [], _∷_, _++_}
-use mathlib.Core.Logic.{_⊎_, inl, inr}
-use mathlib.Core.Path.{_≡_, refl, sym, ap, _∙_}
-use Prim.Native.Nat.{ℕ, zero, suc, _+_, _-_, _*_, _≤_, _<_}
+use mathlib.Core.List.{List, _++_}
+use mathlib.Core.Path.{_≡_, sym, ap, _∙_}
+use Prim.Native.Nat.{ℕ, _≤_, _<_}
 use native.Mathlib.Decide.{decLt}
 use native.Mathlib.Omega.{arith}
 use borrow.Author.Tests.{lt-ltb, le-ltb}
-use lib.ListN.{length, getD, take, drop}
+use lib.ListN.{length, take, drop}
 use lib.Seq.{drop-at, getD-take, length-take-le}
 use Rattle.laws.specs.Bounded.{allBelow}
 use Rattle.laws.proofs.Bounded.{length-tabulate}
@@ -17,9 +15,8 @@ use Rattle.flow.specs.Plan.{Plan}
 use Rattle.book.specs.Book.{Book}
 use Rattle.book.proofs.Kept.{Kept}
 use Rattle.state.specs.Layout.{headerSize}
-use Rattle.state.specs.State.{State}
 use Rattle.state.specs.Words.{stateWords}
-use Rattle.state.specs.Read.{sxIn, syIn, countIn, clockIn, planIn, stateOf}
+use Rattle.state.specs.Read.{countIn, clockIn, planIn, stateOf}
 use Rattle.state.specs.Forms.{headerFits, sizeIn, stateNumber}
 use Rattle.state.specs.Outcome.{over}
 use Rattle.state.specs.Calls.{planSize}

@@ -1,8 +1,8 @@
 -- The state of the book at its start is the reset state, and an offer on the state of a book is the book's offer. Rests on View.
-use mathlib.Core.Bool.{Bool, false, cond, and-true, and-false}
-use mathlib.Core.List.{List, [], _∷_, _++_, append-nil}
+use mathlib.Core.Bool.{and-true}
+use mathlib.Core.List.{[], _∷_, append-nil}
 use mathlib.Core.Path.{_≡_, refl, sym, ap, _∙_}
-use Prim.Native.Nat.{ℕ, _+_, _≤_, _<_}
+use Prim.Native.Nat.{ℕ, _+_, _<_}
 use native.Mathlib.Decide.{ℕ-discrete}
 use native.Mathlib.Nat.{add-zero}
 use native.Mathlib.Omega.{arith}
@@ -11,14 +11,14 @@ use lib.Dec.{eqb}
 use lib.ListN.{length, getD, set, length-set}
 use lib.Seq.{getD-set-same, getD-set-other}
 use Rattle.laws.specs.Bounded.{tabulate}
-use Rattle.laws.specs.Count.{one, count, keep}
+use Rattle.laws.specs.Count.{one, keep}
 use Rattle.laws.proofs.Bounded.{length-tabulate, getD-tabulate, is-tabulate}
 use Rattle.laws.proofs.Count.{count-append}
 use Rattle.laws.proofs.Keep.{keep-append}
 use Rattle.laws.proofs.Grid.{tabulate-same, grid-same}
 use Rattle.flow.specs.Plan.{Plan, flowAt}
 use Rattle.bucket.specs.Regulator.{fullBucket}
-use Rattle.book.specs.Line.{Place, W, N, Line}
+use Rattle.book.specs.Line.{Place, W, N}
 use Rattle.book.specs.Book.{Book, bucketAt, start, waitsFor, waitingOf, enteredOf, offeredLine, offered}
 use Rattle.book.proofs.Queue.{entered-offer}
 use Rattle.state.specs.declared.Tally.{Tally}
@@ -71,6 +71,8 @@ module _ (p : Plan) (b : Book) (f : ℕ) (below : f < length (p .flows)) where
   offer-follows =
       let old = tabulate (length (p .flows)) (tallyOf b) in
       let here = ap (λ (t : Tally). set old f (record { bucket = t .bucket; entered = t .entered; waiting = t .waiting + 1 })) (tally-at p b f below) in
-      let tallies = here ∙ is-tabulate (set old f after) (length (p .flows)) (tallyOf (offered b f)) (freshTally 0) (length-set old f after ∙ length-tabulate (length (p .flows)) (tallyOf b)) offer-tally in
-      let cells = grid-same (p .sx) (p .sy) (cellOf b) (cellOf (offered b f)) (λ x y lx ly. λ i. record { west = offer-register (W x y) i; north = offer-register (N x y) i }) in
+      let long = length-set old f after ∙ length-tabulate (length (p .flows)) (tallyOf b) in
+      let tallies = here ∙ is-tabulate (set old f after) (length (p .flows)) (tallyOf (offered b f)) (freshTally 0) long offer-tally in
+      let cells = grid-same (p .sx) (p .sy) (cellOf b) (cellOf (offered b f))
+      (λ x y lx ly. λ i. record { west = offer-register (W x y) i; north = offer-register (N x y) i }) in
       λ i. record { plan = p; clock = b .clock; tallies = tallies i; cells = cells i }

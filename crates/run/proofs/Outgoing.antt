@@ -1,73 +1,45 @@
--- The lines that a router sends by a port: the one in W or N that takes it, else the one that enters (01, One cycle, rules 1
--- and 3). Rests on Sends.
-use mathlib.Core.Bool.{Bool, true, false, cond, not, _&&_, _||_, false≢true, and-true, and-false, or-false}
-use mathlib.Core.List.{List, [], _∷_, map, List·Memᴰ as Mem, List·Memᴰ·head as here, List·Memᴰ·tail as there}
-use mathlib.Core.Logic.{_⊎_, inl, inr}
+-- The lines that a router sends by a port, from W, from N or from its client, and what becomes of the packet in a register
+-- (01, One cycle, rules 1 and 3). Rests on View.
+use mathlib.Core.Bool.{Bool, true, false, cond, _&&_, _||_, false≢true, and-true, or-false}
+use mathlib.Core.List.{List, [], _∷_, map, List·Memᴰ as Mem, List·Memᴰ·head as here}
+use mathlib.Core.Logic.{inl, inr}
 use mathlib.Core.Path.{_≡_, refl, sym, ap, _∙_}
-use Prim.Native.Nat.{ℕ, _+_, _≤_, _<_}
-use native.Mathlib.Decide.{ℕ-discrete}
+use Prim.Native.Nat.{ℕ, _+_}
 use native.Mathlib.Nat.{add-zero}
-use native.Mathlib.Omega.{arith}
-use borrow.Author.Tests.{eq-eqb, ne-eqb, eqb-true, not-false}
+use borrow.Author.Tests.{eqb-true}
 use lib.Dec.{eqb}
-use lib.ListN.{length}
-use Rattle.laws.specs.Count.{one, count, any, keep}
+use Rattle.laws.specs.Count.{one, keep}
 use Rattle.laws.proofs.Cases.{test}
 use Rattle.laws.proofs.Cases as Cases
-use Rattle.laws.proofs.Count.{any-mem}
-use Rattle.laws.proofs.Keep.{keep-same, keep-both, keep-map, kept, length-keep}
-use Rattle.flow.specs.declared.Flow.{Flow}
+use Rattle.laws.proofs.Keep.{kept}
 use Rattle.flow.specs.declared.Port.{Port}
 use Rattle.flow.specs.declared.Port.the-variants.{East, South}
-use Rattle.flow.specs.Offsets.{portOf}
-use Rattle.flow.specs.Plan.{Plan, flowAt, FlowOk}
-use Rattle.book.specs.Line.{Place, W, N, columnOf, rowOf, samePlace, Stage, waiting, placed, left, Line, standsIn, isWaiting, entryOf}
+use Rattle.flow.specs.Plan.{Plan, flowAt}
+use Rattle.book.specs.Line.{Place, W, N, Stage, waiting, placed, left, Line, standsIn, entryOf}
 use Rattle.book.specs.Book.{Book}
-use Rattle.book.specs.Cycle.{samePort, westTurns, deflects, deflected, isOpen, enters, lowest, moveStage, leaves, leavesBy, move}
-use Rattle.book.proofs.Moves.{goes, sent-entry, goes-enters}
-use Rattle.book.proofs.Entries.{entering-ready}
-use Rattle.book.proofs.Traced.{line-ok}
+use Rattle.book.specs.Cycle.{samePort, westTurns, deflects, deflected, isOpen, moveStage, leaves, leavesBy, move}
+use Rattle.book.proofs.Moves.{sent-entry}
 use Rattle.state.specs.declared.Register.{Register}
 use Rattle.state.specs.declared.Register.the-variants.{Empty, Packet}
 use Rattle.cycle.specs.Router as Router
-use Rattle.book.proofs.Kept.{Kept}
+use Rattle.book.proofs.Outputs.{fromClient, client, client-opens}
 use Rattle.run.specs.View.{packetOf, holding, placedIn, registerOf}
-use Rattle.run.proofs.View.{line-turns}
-use Rattle.run.proofs.Sends.{atPort}
+use Rattle.run.proofs.View.{place-same}
 
 -- the lines that the router in column x and row y sends by port o
 abbrev pub outgoing : Plan → Book → (x y : ℕ) → Port → List Line
 outgoing p b x y o = keep (leavesBy p b x y o) (b .lines)
 
--- a line that enters there
-abbrev pub entersBy : Plan → Book → (x y : ℕ) → Port → Line → Bool
-entersBy p b x y o l =
-    let φ : Flow = flowAt p (l .flow) in
-    goes p b l && atPort x y o (φ .xs) (φ .ys) (portOf (p .sx) φ)
-
 -- one deflection more, or as it was
 abbrev pub onward : Bool → Register → Register
 onward d r = cond d (Router.deflected r) r
-
-port-same : (o o′ : Port) → samePort o o′ ≡ true → o ≡ o′
-port-same East East e = refl
-port-same East South e = absurd (false≢true e)
-port-same South East e = absurd (false≢true e)
-port-same South South e = refl
-
-place-same : (p : Plan) (b : Book) (at at′ : Place) → samePlace at at′ ≡ true → deflects p b at′ ≡ deflects p b at
-place-same p b (W x y) (W x′ y′) e = refl
-place-same p b (W x y) (N x′ y′) e = absurd (false≢true e)
-place-same p b (N x y) (W x′ y′) e = absurd (false≢true e)
-place-same p b (N x y) (N x′ y′) e =
-    let h = Cases.and-true (eqb x x′) (eqb y y′) e in rw (eqb-true x x′ (h .0), eqb-true y y′ (h .1))
 
 module _ (p : Plan) (b : Book) (l : Line) where
   -- a placed line's step, as a register has it
   stage-moves : (at : Place) (s : Stage) → standsIn at s ≡ true
       → (deflected p b s ≡ deflects p b at) × (entryOf (moveStage p b l s) ≡ entryOf s)
   stage-moves at waiting e = absurd (false≢true e)
-  stage-moves at (placed e′ at′) e = (place-same p b at at′ e, sent-entry p _ _ _ _ _ _)
+  stage-moves at (placed e′ at′) e = (ap (deflects p b) (place-same at at′ e), sent-entry p _ _ _ _ _ _)
   stage-moves at (left e′ t x y) e = absurd (false≢true e)
 
   onward-is : (flow serial entry D : ℕ) (d : Bool) → Packet flow serial entry (D + one d) ≡ onward d (Packet flow serial entry D)
@@ -99,47 +71,17 @@ module _ (p : Plan) (b : Book) (at : Place) where
       (λ l m. packet-moves p b l at (kept (placedIn at) (b .lines) m .1))
 
 module _ (p : Plan) (b : Book) (x y : ℕ) (o : Port) where
-  -- a line that enters by a port of its client
-  pub record Entering (l : Line) : Type 0 where
-    pub going : goes p b l ≡ true
-    pub waits : isWaiting (l .stage) ≡ true
-    pub enter : enters p b (l .flow) ≡ true
-    pub column : x ≡ (flowAt p (l .flow)) .xs
-    pub row : y ≡ (flowAt p (l .flow)) .ys
-    pub port : portOf (p .sx) (flowAt p (l .flow)) ≡ o
-
-  pub entering-parts : (l : Line) → entersBy p b x y o l ≡ true → Entering l
-  entering-parts l e =
-      let φ : Flow = flowAt p (l .flow) in
-      let h = Cases.and-true (goes p b l) (atPort x y o (φ .xs) (φ .ys) (portOf (p .sx) φ)) e in
-      let g = Cases.and-true (isWaiting (l .stage)) (enters p b (l .flow) && lowest b l) (h .0) in
-      let u = Cases.and-true (eqb x (φ .xs) && eqb y (φ .ys)) (samePort (portOf (p .sx) φ) o) (h .1) in
-      let v = Cases.and-true (eqb x (φ .xs)) (eqb y (φ .ys)) (u .0) in
-      record {
-        going = h .0;
-        waits = g .0;
-        enter = goes-enters p b l (h .0);
-        column = eqb-true _ _ (v .0);
-        row = eqb-true _ _ (v .1);
-        port = port-same _ _ (u .1);
-      }
-
   -- a closed port lets no line in
-  pub closed : isOpen p b x y o ≡ false → (l : Line) → entersBy p b x y o l ≡ false
+  pub closed : isOpen p b x y o ≡ false → (l : Line) → client p b x y o l ≡ false
   closed shut l =
-      elim (test (entersBy p b x y o l)) [
-        | inr e ↦ e
-        | inl e ↦
-            let h = entering-parts l e in
-            absurd (false≢true (sym shut ∙ rw (h .column, h .row, ← (h .port)) (entering-ready p b (l .flow) (h .enter) .opened)))
-      ]
+      elim (test (client p b x y o l)) [ inr e ↦ e | inl e ↦ absurd (false≢true (sym shut ∙ client-opens p b x y o l e)) ]
 
   -- a line leaves from W, from N or by its client
   pub split : (l : Line) (s : Stage) → (standsIn (W x y) s ≡ true → eqb x ((flowAt p (l .flow)) .xd) ≡ westTurns p b x y)
       → leaves p b l x y o s
       ≡ (standsIn (W x y) s && samePort (cond (westTurns p b x y) South East) o)
       || (standsIn (N x y) s && samePort (cond (westTurns p b x y) East South) o)
-      || ((isWaiting s && (enters p b (l .flow) && lowest b l)) && atPort x y o ((flowAt p (l .flow)) .xs) ((flowAt p (l .flow)) .ys) (portOf (p .sx) (flowAt p (l .flow))))
+      || fromClient p b x y o l s
   split l waiting h = refl
   split l (placed e (W x′ y′)) h =
       rw (or-false, or-false)

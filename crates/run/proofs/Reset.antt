@@ -1,8 +1,8 @@
 -- A reset that is accepted, and one that is refused: what each leaves of the words lent to it. Rests on the definition of reset.
-use mathlib.Core.Bool.{Bool, true, false, cond, false≢true}
+use mathlib.Core.Bool.{Bool, true, false, false≢true}
 use mathlib.Core.List.{List}
-use mathlib.Core.Logic.{_⊎_, inl, inr}
-use mathlib.Core.Path.{_≡_, refl, sym, ap, _∙_}
+use mathlib.Core.Logic.{inl, inr}
+use mathlib.Core.Path.{_≡_, refl, sym, ap}
 use Prim.Native.Nat.{ℕ, _≤_}
 use borrow.Author.Tests.{ltb-false}
 use lib.Dec.{ltb}
@@ -14,7 +14,7 @@ use Rattle.plan.specs.Layout.{planOf}
 use Rattle.plan.specs.Refusals.{planAnswer}
 use Rattle.state.specs.State.{resetState}
 use Rattle.state.specs.Words.{stateWords}
-use Rattle.state.specs.Outcome.{Outcome, outcome, refused, unlessRefused, over}
+use Rattle.state.specs.Outcome.{Outcome, outcome, unlessRefused, over}
 use Rattle.state.specs.Calls.{planSize, resetOn}
 
 abbrev isDone : Answer → Bool

@@ -1,24 +1,24 @@
 -- By which port of which router a line is sent in a step, and where it then stands (01, One cycle, rules 1 and 2). Rests on
 -- the book's Path.
-use mathlib.Core.Bool.{Bool, true, false, cond, not, _&&_, and-true, and-false}
-use mathlib.Core.Logic.{_⊎_, inl, inr}
-use mathlib.Core.Path.{_≡_, refl, sym, ap, _∙_}
-use Prim.Native.Nat.{ℕ, _+_, _≤_, _<_}
+use mathlib.Core.Bool.{Bool, true, false, not, _&&_, and-true, and-false}
+use mathlib.Core.Logic.{inl, inr}
+use mathlib.Core.Path.{_≡_, refl, ap}
+use Prim.Native.Nat.{ℕ, _<_}
 use native.Mathlib.Decide.{ℕ-discrete}
 use native.Mathlib.Omega.{arith}
-use borrow.Author.Tests.{eq-eqb, ne-eqb}
+use borrow.Author.Tests.{eq-eqb, ne-eqb, eqb-true}
 use lib.Dec.{eqb}
 use Rattle.laws.proofs.Cases.{test}
+use Rattle.laws.proofs.Cases as Cases
 use Rattle.torus.specs.Ring.{next}
 use Rattle.torus.proofs.Ring.{next-one}
 use Rattle.flow.specs.declared.Flow.{Flow}
 use Rattle.flow.specs.declared.Port.{Port}
 use Rattle.flow.specs.declared.Port.the-variants.{East, South}
-use Rattle.flow.specs.Offsets.{portOf}
 use Rattle.flow.specs.Plan.{Plan, flowAt, FlowOk}
-use Rattle.book.specs.Line.{Place, W, N, columnOf, rowOf, Stage, waiting, placed, left, Line, standsIn, leftAt}
+use Rattle.book.specs.Line.{W, N, Stage, waiting, placed, left, Line, standsIn, leftAt}
 use Rattle.book.specs.Book.{Book}
-use Rattle.book.specs.Cycle.{samePort, output, sent, enters, lowest, leaves, moveStage}
+use Rattle.book.specs.Cycle.{samePort, sent, enters, lowest, leaves, moveStage}
 use Rattle.book.proofs.Path.{Sound, placed-on}
 
 -- a packet at the router in column x′ and row y′ that takes port o′ is sent by port o of the router in column x and row y
@@ -68,47 +68,28 @@ module _ (p : Plan) (c x y : ℕ) (lx : x < p .sx) (ly : y < p .sy) where
           rw (and-true, and-false) (elim (test (isHome x′ y′ f)) [ inl h ↦ rw h | inr h ↦ rw h ])
 
   module _ (f : Flow) (e x′ y′ : ℕ) where
-    -- another router's packet
-    elsewhere : (h : Bool) → ((x ≡ x′) × (y ≡ y′) → ⊥) → atPort x y South x′ y′ South && h ≡ false
-    elsewhere h other =
-        elim (ℕ-discrete x x′) [
-          | no u ↦ rw (ne-eqb x x′ u)
-          | yes u ↦ elim (ℕ-discrete y y′) [ yes v ↦ absurd (other (u, v)) | no v ↦ rw (ne-eqb y y′ v, and-false) ]
-        ]
-
-    here-or-not : ((x ≡ x′) × (y ≡ y′)) ⊎ ((x ≡ x′) × (y ≡ y′) → ⊥)
-    here-or-not =
-        elim (ℕ-discrete x x′) [
-          | no u ↦ inr (λ h. u (h .0))
-          | yes u ↦ elim (ℕ-discrete y y′) [ yes v ↦ inl (u, v) | no v ↦ inr (λ h. v (h .1)) ]
-        ]
-
     -- what is sent S and isn't at home stands in N to the south
     sent-north : y′ < p .sy → standsIn (N x (next (p .sy) y)) (sent p f c e x′ y′ South) ≡ atPort x y South x′ y′ South && not (isHome x y f)
     unfolding sent
     sent-north m =
-        elim here-or-not [
-          | inl h ↦ rw (← (h .0), ← (h .1), eq-eqb x x refl, eq-eqb y y refl) (elim (test (isHome x y f)) [ inl u ↦ rw u | inr u ↦ rw (u, eq-eqb x x refl, eq-eqb (next (p .sy) y) (next (p .sy) y) refl) ])
-          | inr h ↦
-              rw (elsewhere (not (isHome x y f)) h)
-              (elim (test (isHome x′ y′ f)) [
-                | inl u ↦ rw u
-                | inr u ↦ rw (u, next-eqb (p .sy) y y′ ly m, ← (and-true (eqb x x′ && eqb y y′)), ← (and-true (eqb x x′ && eqb y y′ && true))) (elsewhere true h)
-              ])
+        elim (test (eqb x x′ && eqb y y′)) [
+          | inr other ↦ rw other (elim (test (isHome x′ y′ f)) [ inl h ↦ rw h | inr h ↦ rw (h, next-eqb (p .sy) y y′ ly m, other) ])
+          | inl same ↦
+              let at = Cases.and-true (eqb x x′) (eqb y y′) same in
+              rw (← (eqb-true x x′ (at .0)), ← (eqb-true y y′ (at .1)), eq-eqb x x refl, eq-eqb y y refl)
+              (elim (test (isHome x y f)) [ inl h ↦ rw h | inr h ↦ rw (h, eq-eqb x x refl, eq-eqb (next (p .sy) y) (next (p .sy) y) refl) ])
         ]
 
     -- what is sent S at home leaves
     sent-left : leftAt c x y (sent p f c e x′ y′ South) ≡ atPort x y South x′ y′ South && isHome x y f
     unfolding sent
     sent-left =
-        elim here-or-not [
-          | inl h ↦ rw (← (h .0), ← (h .1), eq-eqb x x refl, eq-eqb y y refl) (elim (test (isHome x y f)) [ inl u ↦ rw (u, eq-eqb c c refl, eq-eqb x x refl, eq-eqb y y refl) | inr u ↦ rw u ])
-          | inr h ↦
-              rw (elsewhere (isHome x y f) h)
-              (elim (test (isHome x′ y′ f)) [
-                | inr u ↦ rw u
-                | inl u ↦ rw (u, eq-eqb c c refl, ← (and-true (eqb x x′ && eqb y y′)), ← (and-true (eqb x x′ && eqb y y′ && true))) (elsewhere true h)
-              ])
+        elim (test (eqb x x′ && eqb y y′)) [
+          | inr other ↦ rw other (elim (test (isHome x′ y′ f)) [ inl h ↦ rw (h, eq-eqb c c refl, other) | inr h ↦ rw h ])
+          | inl same ↦
+              let at = Cases.and-true (eqb x x′) (eqb y y′) same in
+              rw (← (eqb-true x x′ (at .0)), ← (eqb-true y y′ (at .1)), eq-eqb x x refl, eq-eqb y y refl)
+              (elim (test (isHome x y f)) [ inl h ↦ rw (h, eq-eqb c c refl, eq-eqb x x refl, eq-eqb y y refl) | inr h ↦ rw h ])
         ]
 
   pub north-tells : Tells p c x y South (standsIn (N x (next (p .sy) y))) (λ f. not (isHome x y f))

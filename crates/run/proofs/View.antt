@@ -1,27 +1,33 @@
 -- What stands in the state of a book: each flow's tally, each router's registers. Rests on specs/View.
-use mathlib.Core.Bool.{Bool, true, false, not, _&&_, _||_, false≢true, or-false}
+use mathlib.Core.Bool.{true, not, false≢true, or-false}
 use mathlib.Core.List.{List, [], _∷_, List·Memᴰ as Mem}
-use mathlib.Core.Logic.{_⊎_, inl, inr}
-use mathlib.Core.Path.{_≡_, refl, sym, ap, _∙_}
-use Prim.Native.Nat.{ℕ, _≤_, _<_}
+use mathlib.Core.Logic.{inl, inr}
+use mathlib.Core.Path.{_≡_, refl, sym, _∙_}
+use Prim.Native.Nat.{ℕ, _<_}
 use native.Mathlib.Omega.{arith}
+use borrow.Author.Tests.{eqb-true}
 use lib.Dec.{eqb}
 use lib.ListN.{length}
-use Rattle.laws.specs.Count.{count, any, keep}
-use Rattle.laws.proofs.Cases.{test}
+use Rattle.laws.specs.Count.{any, keep}
+use Rattle.laws.proofs.Cases.{test, and-true}
 use Rattle.laws.proofs.Bounded.{getD-tabulate}
 use Rattle.laws.proofs.Grid.{getD-grid}
 use Rattle.laws.proofs.Keep.{few, any-both, length-keep, keep-one}
 use Rattle.flow.specs.Plan.{Plan, flowAt}
-use Rattle.book.specs.Line.{Place, W, N, Line, standsIn}
+use Rattle.book.specs.Line.{Place, W, N, samePlace, Line}
 use Rattle.book.specs.Book.{Book}
-use Rattle.book.specs.Cycle.{full, turns, westTurns}
+use Rattle.book.specs.Cycle.{full, westTurns}
 use Rattle.book.proofs.Outputs.{Apart}
-use Rattle.state.specs.declared.Register.{Register}
-use Rattle.state.specs.declared.Register.the-variants.{Empty, Packet}
 use Rattle.state.specs.State.{tallyAt, cellAt}
 use Rattle.cycle.specs.Router.{isEmpty, turnsSouth}
-use Rattle.run.specs.View.{packetOf, holding, placedIn, registerOf, cellOf, tallyOf, bookState}
+use Rattle.run.specs.View.{holding, placedIn, registerOf, cellOf, tallyOf, bookState}
+
+-- one register
+pub place-same : (at at′ : Place) → samePlace at at′ ≡ true → at′ ≡ at
+place-same (W x y) (W x′ y′) e = let h = and-true (eqb x x′) (eqb y y′) e in rw (eqb-true x x′ (h .0), eqb-true y y′ (h .1))
+place-same (W x y) (N x′ y′) e = absurd (false≢true e)
+place-same (N x y) (W x′ y′) e = absurd (false≢true e)
+place-same (N x y) (N x′ y′) e = let h = and-true (eqb x x′) (eqb y y′) e in rw (eqb-true x x′ (h .0), eqb-true y y′ (h .1))
 
 module _ (p : Plan) (b : Book) where
   pub tally-at : (f : ℕ) → f < length (p .flows) → tallyAt (bookState p b) f ≡ tallyOf b f

@@ -17,6 +17,7 @@ use Rattle.book.specs.Calls.{Reply, done, Fed, feed, Run, run}
 use Rattle.book.specs.Calls as BookCalls
 use Rattle.book.specs.Promises.{Promises}
 use Rattle.state.specs.Words.{stateWords}
+use Rattle.state.specs.Forms.{stateNumber}
 use Rattle.state.specs.Outcome.{Outcome, outcome, refused, over}
 use Rattle.state.specs.Calls.{planSize, resetOn, writeOn}
 use Rattle.cycle.specs.Calls.{StepOutcome, offerOn, stepOn}
@@ -148,15 +149,21 @@ expected p b (whole (write notes target) ∷ es) = written p notes target ∷ ex
 expected p b (whole (reset file number place) ∷ es) = outcome (Refused number place) [] ∷ expected p b es
 expected p b (first room c ∷ es) = tooLittle c ∷ expected p b es
 
+-- the packet book after a list: its lines, its answers and all that was delivered
+abbrev pub bookRun : Plan → List Entry → Run
+bookRun p es = run p (fed es)
+
 -- what a list comes to, from the state memory that an accepted reset of plan p left of the lent words
 pub record Follows (p : Plan) (words memory : List ℕ) (es : List Entry) : Type 0 where
   -- each call's answer and the words that the steps delivered, in order, are the book's
   pub answered : outcomes memory es ≡ expected p (start p) es
-  pub delivered : deliveredWords memory es ≡ wordsOf ((run p (fed es)) .delivered)
+  pub delivered : deliveredWords memory es ≡ wordsOf ((bookRun p es) .delivered)
   -- so is every word of the state; words past its size are as lent
-  pub state : memoryAfter memory es ≡ over (stateWords (bookState p ((run p (fed es)) .book))) words
-  -- and the book keeps its promises
-  pub promised : Promises p ((run p (fed es)) .book) ((run p (fed es)) .delivered)
+  pub state : memoryAfter memory es ≡ over (stateWords (bookState p ((bookRun p es) .book))) words
+  -- these words form a state: 9 never comes up, and 8 only for too little of them
+  pub formed : stateNumber (memoryAfter memory es) ≡ 0
+  -- the book keeps its promises
+  pub promised : Promises p ((bookRun p es) .book) ((bookRun p es) .delivered)
 
 -- for every plan file that reset accepts, every state memory of at least its size and every list of calls
 abbrev pub EveryList : Type 0

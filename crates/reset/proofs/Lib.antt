@@ -1,0 +1,2 @@
+-- The laws of reset and of writing back.
+pub mod Fresh
