@@ -10,7 +10,7 @@ ghost use Rattle.flow.specs.Plan.{flowAt};
 ghost use Rattle.plan.specs.declared.Answer.the-variants.{Done};
 ghost use Rattle.plan.specs.Layout.{planOf};
 ghost use Rattle.window.specs.Window.{windowOf};
-ghost use Rattle.window.specs.Rivals.{RivalsAmong};
+ghost use Rattle.window.specs.Rivals.{mostRivalWords, RivalsAmong};
 ghost use Rattle.bounds.specs.Calls.{Opened, asked, windowAnswer, flightAnswer, flightOfPlan};
 
 // Flow number f of an accepted file.
@@ -18,7 +18,7 @@ pub fn flow_of(file: &[u8], t: Trailer, f: u32) -> Flow
     requires { ⌜ (Opened (now file) t) × (f < t .count) ⌝ }
     ensures { λ r. ⌜ r ≡ flowAt (planOf (now (file .entry))) f ⌝ }
 {
-    plan::flow_at(file, (t.start as usize) + 8 * (f as usize))
+    plan::flow_at(file, (t.start as usize) + plan::RECORD_SIZE * (f as usize))
 }
 
 // Flow g, after the n rivals of flow f among the flows before it.
@@ -38,7 +38,7 @@ fn meet(file: &[u8], t: Trailer, own: Flow, f: u32, g: u32, rivals: &mut [u32], 
 
 // The rivals of flow f, found once; they are as many as is answered.
 fn find_rivals(file: &[u8], t: Trailer, f: u32, rivals: &mut [u32]) -> usize
-    requires { ⌜ (Opened (now file) t) × ((f < t .count) × (3 * 256 ≤ length (now rivals))) ⌝ }
+    requires { ⌜ (Opened (now file) t) × ((f < t .count) × (mostRivalWords ≤ length (now rivals))) ⌝ }
     ensures { λ r. ⌜ RivalsAmong (planOf (now (file .entry))) f (t .count) (now (rivals .exit)) r ⌝ }
 {
     let own = flow_of(file, t, f);
@@ -55,7 +55,7 @@ pub fn window_found(file: &[u8], t: Trailer, f: u32) -> Found
     requires { ⌜ (Opened (now file) t) × (f < t .count) ⌝ }
     ensures { λ r. ⌜ r ≡ windowOf (planOf (now (file .entry))) f ⌝ }
 {
-    let mut rivals = [0u32; 768];
+    let mut rivals = [0u32; window::MOST_RIVAL_WORDS];
     let n = find_rivals(file, t, f, &mut rivals);
     window::least_window(&rivals, n)
 }

@@ -14,12 +14,12 @@ use Rattle.window.specs.declared.Conflict.{Conflict}
 use Rattle.window.specs.declared.Conflict.the-variants.{Free, Spread}
 use Rattle.window.specs.Conflict.{Pair, conflict}
 use Rattle.window.specs.Window.{share, shareOf, interference, leastFrom, mostWindow, windowOf}
-use Rattle.window.specs.Rivals.{demandOf, Rivals, RivalsAmong, Kept, keptWith}
+use Rattle.window.specs.Rivals.{rivalWords, mostRivalWords, demandOf, Rivals, RivalsAmong, Kept, keptWith}
 use Rattle.window.proofs.Spread.{SpreadMost, none, some, spread-most}
 use Rattle.window.proofs.Rivals.{demand-none, with-demand, with-ok}
 
 -- no flows, no rivals
-pub among-none : (p : Plan) (f : ℕ) (l : List ℕ) → 3 * 256 ≤ length l → RivalsAmong p f 0 l 0
+pub among-none : (p : Plan) (f : ℕ) (l : List ℕ) → mostRivalWords ≤ length l → RivalsAmong p f 0 l 0
 among-none p f l long =
     record {
       words = record { few = omega arith; long = long; rival-ok = λ k b. absurd (omega arith) };
@@ -59,7 +59,7 @@ module _ (p : Plan) (f m : ℕ) (l : List ℕ) (n : ℕ) (h : RivalsAmong p f m 
         let g = ok .flow-ok m below in
         let few : n ≤ m = h .few in
         let all = ok .flows-most in
-        let room : 3 * n + 2 < length l = omega (arith, h .words .long) in
+        let room : rivalWords * n + 2 < length l = omega (arith, h .words .long) in
         record {
           words = with-ok l n (flowAt p m) j room (h .words) (omega arith) (g .burst-most) (g .period-least) most;
           few = omega arith;

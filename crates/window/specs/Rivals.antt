@@ -11,9 +11,17 @@ use Rattle.window.specs.declared.Conflict.{Conflict}
 use Rattle.window.specs.declared.Conflict.the-variants.{Free, Spread}
 use Rattle.window.specs.Window.{shareOf}
 
+-- σ, P and J
+abbrev pub rivalWords : ℕ
+rivalWords = 3
+
+-- room for as many rivals as there can be flows
+abbrev pub mostRivalWords : ℕ
+mostRivalWords = rivalWords * mostFlows
+
 -- what rival number k of the words l adds to I(t)
 unfoldable pub rivalShare : List ℕ → ℕ → ℕ → ℕ
-rivalShare l t k = curve (getD l (3 * k) 0) (getD l (3 * k + 1) 0) (t - 1 + getD l (3 * k + 2) 0)
+rivalShare l t k = curve (getD l (rivalWords * k) 0) (getD l (rivalWords * k + 1) 0) (t - 1 + getD l (rivalWords * k + 2) 0)
 
 -- what the first n rivals of the words l add to I(t)
 unfoldable pub demandOf : List ℕ → ℕ → ℕ → ℕ
@@ -25,14 +33,14 @@ mostSpread = 256
 
 -- rival number k of the words l has numbers in range
 pub record RivalOk (l : List ℕ) (k : ℕ) : Type 0 where
-  pub burst-most : getD l (3 * k) 0 ≤ mostBurst
-  pub period-least : 1 ≤ getD l (3 * k + 1) 0
-  pub spread-most : getD l (3 * k + 2) 0 ≤ mostSpread
+  pub burst-most : getD l (rivalWords * k) 0 ≤ mostBurst
+  pub period-least : 1 ≤ getD l (rivalWords * k + 1) 0
+  pub spread-most : getD l (rivalWords * k + 2) 0 ≤ mostSpread
 
 -- the words l hold n rivals
 pub record Rivals (l : List ℕ) (n : ℕ) : Type 0 where
   pub few : n ≤ mostFlows
-  pub long : 3 * mostFlows ≤ length l
+  pub long : mostRivalWords ≤ length l
   pub rival-ok : (k : ℕ) → k < n → RivalOk l k
 
 -- the words l hold the n rivals of flow number f among the first m flows: together they add to I(t) what those flows do
@@ -52,4 +60,4 @@ kept n l = record { count = n; words = l }
 -- after n rivals, flow g with its conflict
 abbrev pub keptWith : List ℕ → ℕ → Flow → Conflict → Kept
 keptWith l n g Free = kept n l
-keptWith l n g (Spread j) = kept (n + 1) (set (set (set l (3 * n) (g .burst)) (3 * n + 1) (g .period)) (3 * n + 2) j)
+keptWith l n g (Spread j) = kept (n + 1) (set (set (set l (rivalWords * n) (g .burst)) (rivalWords * n + 1) (g .period)) (rivalWords * n + 2) j)

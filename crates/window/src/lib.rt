@@ -6,9 +6,18 @@ ghost use Rattle.window.specs.Conflict.{Pair, conflict, conflictEast, co
 ghost use Rattle.window.specs.Window.{mostWindow, leastFrom, loneWait};
 ghost use Rattle.flow.specs.Plan.{FlowOk, mostSize, mostPeriod};
 ghost use Rattle.window.specs.Flight.{flightBound, mostFlight};
-ghost use Rattle.window.specs.Rivals.{rivalShare, demandOf, Rivals, RivalOk, kept, keptWith};
+ghost use Rattle.window.specs.Rivals.{rivalWords, rivalShare, demandOf, Rivals, RivalOk, kept, keptWith};
 use flow::Flow;
 use flow::Port;
+
+// Windows run from 1 to 65,535.
+pub const MOST_WINDOW: u32 = 65535;
+
+// A rival is kept as three words: its burst, its period and its spread.
+pub const RIVAL_WORDS: usize = 3;
+
+// The words of 256 rivals.
+pub const MOST_RIVAL_WORDS: usize = 768;
 
 // How a flow meets another at its source: not at all, or in conflict with the spread J.
 pub enum Conflict {
@@ -53,7 +62,8 @@ fn conflict_south(sx: u32, sy: u32, f: Flow, g: Flow) -> Conflict
         return Conflict::Free;
     }
     let rows = torus::offset(sy, g.ys, f.ys);
-    if g.offset_y(sy) < rows {
+    let dy = g.offset_y(sy);
+    if dy < rows {
         return Conflict::Free;
     }
     Conflict::Spread(rows * sx)
@@ -76,10 +86,10 @@ pub fn conflict_of(sx: u32, sy: u32, f: Flow, g: Flow) -> Conflict
 
 // What rival number k adds to I(t).
 fn rival_share(rivals: &[u32], k: usize, t: u32) -> u32
-    requires { ⌜ (3 * k + 2 < length (now rivals)) × ((RivalOk (now rivals) k) × ((1 ≤ t) × (t ≤ mostWindow))) ⌝ }
+    requires { ⌜ (rivalWords * k + 2 < length (now rivals)) × ((RivalOk (now rivals) k) × ((1 ≤ t) × (t ≤ mostWindow))) ⌝ }
     ensures { λ r. ⌜ r ≡ rivalShare (now (rivals .entry)) t k ⌝ }
 {
-    let at = 3 * k;
+    let at = RIVAL_WORDS * k;
     bucket::most_entries(rivals[at], rivals[at + 1], t - 1 + rivals[at + 2])
 }
 
@@ -102,7 +112,7 @@ pub fn least_window(rivals: &[u32], n: usize) -> Found
 {
     let mut t = 1u32;
     loop {
-        if 65535 < t {
+        if MOST_WINDOW < t {
             break Found::Nothing;
         }
         let d = demand(rivals, n, t);
@@ -115,13 +125,13 @@ pub fn least_window(rivals: &[u32], n: usize) -> Found
 
 // Flow g with its conflict, after n rivals: three words more if it is one.
 pub fn keep_rival(rivals: &mut [u32], n: usize, g: Flow, c: Conflict) -> usize
-    requires { ⌜ 3 * n + 2 < length (now rivals) ⌝ }
+    requires { ⌜ rivalWords * n + 2 < length (now rivals) ⌝ }
     ensures { λ r. ⌜ kept r (now (rivals .exit)) ≡ keptWith (now (rivals .entry)) n g c ⌝ }
 {
     match c {
         Conflict::Free => n,
         Conflict::Spread(j) => {
-            let at = 3 * n;
+            let at = RIVAL_WORDS * n;
             rivals[at] = g.burst;
             rivals[at + 1] = g.period;
             rivals[at + 2] = j;

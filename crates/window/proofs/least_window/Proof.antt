@@ -2,6 +2,7 @@
 use mathlib.Core.Path.{_≡_, sym}
 use Prim.Native.Nat.{ℕ, _+_, _-_, _*_, _≤_, _<_}
 use native.Mathlib.Omega.{arith}
+use Rattle.window.specs.Window.{mostWindow}
 use Rattle.window.specs.Rivals.{demandOf}
 use Rattle.window.proofs.Least.{Tried, least-at, least-none, leap}
 use Rattle.window.proofs.Rivals.{demand-time, demand-most}
@@ -12,7 +13,7 @@ abbrev Inv-loop : tie.InvT-loop
 Inv-loop rivals n t₀ t = (1 ≤ t) × Tried (demandOf rivals n) 1 t
 
 abbrev μ-loop : tie.MeasureT-loop
-μ-loop rivals n t₀ t = 65536 - t
+μ-loop rivals n t₀ t = 1 + mostWindow - t
 
 loop-holds : tie.Need-loop-holds Inv-loop μ-loop
 loop-holds c = (omega arith, λ k l m. absurd (omega arith))
