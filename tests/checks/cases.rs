@@ -8,15 +8,8 @@ use second::{calls, random};
 
 /// A plan on the 4 by 4 torus: each flow's six numbers.
 fn four_by_four(flows: &[[i64; 6]]) -> Plan {
-    let flows = flows
-        .iter()
-        .map(|&numbers| Flow::from_numbers(numbers))
-        .collect();
-    Plan {
-        sx: 4,
-        sy: 4,
-        flows,
-    }
+    let flows = flows.iter().map(|&numbers| Flow::from_numbers(numbers)).collect();
+    Plan { sx: 4, sy: 4, flows }
 }
 
 /// Offers one packet of each flow in cycle 0 and steps until all have left. Gives each line's
@@ -29,10 +22,7 @@ fn one_packet_each(plan: Plan) -> Vec<(i64, i64, i64)> {
     while book.lines.iter().any(|line| line.exit.is_none()) {
         book.step(5 * book.plan.routers()).unwrap();
     }
-    book.lines
-        .iter()
-        .map(|line| (line.entry.unwrap(), line.exit.unwrap().0, line.d))
-        .collect()
+    book.lines.iter().map(|line| (line.entry.unwrap(), line.exit.unwrap().0, line.d)).collect()
 }
 
 fn no(number: u64, place: u64) -> Result<u64, Refusal> {
@@ -41,11 +31,9 @@ fn no(number: u64, place: u64) -> Result<u64, Refusal> {
 
 #[test]
 fn flights_unhindered_and_their_bounds() {
-    for (ends, dx, dy, flight, bound) in [
-        ([0, 0, 3, 3], 3, 3, 8, 20),
-        ([3, 3, 3, 1], 0, 2, 4, 12),
-        ([2, 2, 2, 2], 0, 0, 2, 2),
-    ] {
+    for (ends, dx, dy, flight, bound) in
+        [([0, 0, 3, 3], 3, 3, 8, 20), ([3, 3, 3, 1], 0, 2, 4, 12), ([2, 2, 2, 2], 0, 0, 2, 2)]
+    {
         let [xs, ys, xd, yd] = ends;
         let plan = four_by_four(&[[xs, ys, xd, yd, 1, 1]]);
         assert_eq!((plan.dx(0), plan.dy(0)), (dx, dy));
@@ -59,10 +47,7 @@ fn flights_unhindered_and_their_bounds() {
 fn a_turning_packet_deflects_one_at_its_destination() {
     let lines = one_packet_each(four_by_four(&[[0, 0, 0, 1, 10, 1], [3, 1, 0, 1, 10, 1]]));
     assert_eq!(lines, [(0, 5, 1), (0, 1, 0)]);
-    let flights: Vec<_> = lines
-        .iter()
-        .map(|(entry, exit, _)| exit - entry + 2)
-        .collect();
+    let flights: Vec<_> = lines.iter().map(|(entry, exit, _)| exit - entry + 2).collect();
     assert_eq!(flights, [7, 3]);
 }
 
@@ -109,36 +94,19 @@ fn the_last_offer_and_the_last_cycle() {
 
 #[test]
 fn plan_sizes() {
-    assert_eq!(
-        read(&[0; 11]).unwrap_err(),
-        Refusal {
-            number: 1,
-            place: 0
-        }
-    );
+    assert_eq!(read(&[0; 11]).unwrap_err(), Refusal { number: 1, place: 0 });
     for (size, taken) in [(1, true), (16, true), (17, false)] {
         let mut plan = four_by_four(&[[0, 0, 0, 0, 10, 1]]);
         (plan.sx, plan.sy) = (size, 1);
         let answer = read(&plan.file(&[])).map(|(plan, _)| plan.sx);
-        let expected = if taken {
-            Ok(size)
-        } else {
-            Err(Refusal {
-                number: 3,
-                place: 0,
-            })
-        };
+        let expected = if taken { Ok(size) } else { Err(Refusal { number: 3, place: 0 }) };
         assert_eq!(answer, expected);
     }
 }
 
 #[test]
 fn the_smallest_torus() {
-    let plan = Plan {
-        sx: 1,
-        sy: 1,
-        flows: vec![Flow::from_numbers([0, 0, 0, 0, 3, 2])],
-    };
+    let plan = Plan { sx: 1, sy: 1, flows: vec![Flow::from_numbers([0, 0, 0, 0, 3, 2])] };
     let mut book = Book::new(plan);
     for _ in 0..3 {
         book.offer(0).unwrap();
@@ -146,12 +114,7 @@ fn the_smallest_torus() {
     let exits: Vec<_> = (0..4).map(|_| book.step(5).unwrap()).collect();
     assert_eq!(
         exits,
-        [
-            vec![[0, 1, 0, 0, 0]],
-            vec![[0, 2, 1, 1, 0]],
-            vec![],
-            vec![[0, 3, 3, 3, 0]]
-        ]
+        [vec![[0, 1, 0, 0, 0]], vec![[0, 2, 1, 1, 0]], vec![], vec![[0, 3, 3, 3, 0]]]
     );
     assert_eq!(book.lines[2].exit, Some((3, Router { row: 0, column: 0 })));
 }
@@ -162,10 +125,7 @@ fn the_sample_listing() {
         0x01, 0x00, 0x02, 0x00, 0x0A, 0x00, 0x01, 0x00, 0x00, 0x00, 0x03, 0x00, 0x0A, 0x00, 0x01,
         0x00, 0x00, 0x00, 0x00, 0x00, 0x02, 0x00, 0x04, 0x04, 0x48, 0x52, 0x54, 0x50,
     ];
-    assert_eq!(
-        listing(&file),
-        "flow port window flight wait\n0 E 2 3 10\n1 E 1 5 9\n"
-    );
+    assert_eq!(listing(&file), "flow port window flight wait\n0 E 2 3 10\n1 E 1 5 9\n");
     assert_eq!(listing(&file[..11]), "refused 1 0\n");
     let mut damaged = file;
     damaged[27] = 0x51;

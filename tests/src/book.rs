@@ -72,10 +72,7 @@ enum Way {
 
 impl Book {
     pub fn new(plan: Plan) -> Book {
-        let full = |flow: &crate::plan::Flow| Bucket {
-            tokens: flow.burst,
-            count: 0,
-        };
+        let full = |flow: &crate::plan::Flow| Bucket { tokens: flow.burst, count: 0 };
         let flows = plan.flows.len();
         Book {
             clock: 0,
@@ -106,16 +103,16 @@ impl Book {
         let serial = self.entered[flow] + q + 1;
         self.waiting[flow].push_back(self.lines.len());
         let (offer, d) = (self.clock, 0);
-        self.lines.push(Line {
-            flow,
-            serial,
-            offer,
-            q,
-            d,
-            entry: None,
-            place: None,
-            exit: None,
-        });
+        self.lines.push(Line { flow, serial, offer, q, d, entry: None, place: None, exit: None });
+    }
+
+    /// Drops the lines that have left. For a search, which looks at the future only.
+    pub fn forget_exits(&mut self) {
+        let old = std::mem::take(&mut self.lines);
+        for line in self.placed.iter_mut().chain(self.waiting.iter_mut().flatten()) {
+            self.lines.push(old[*line].clone());
+            *line = self.lines.len() - 1;
+        }
     }
 
     /// A step that is lent this many words of delivery memory: its exits, in order.
@@ -131,21 +128,11 @@ impl Book {
         self.enter_lines(&old, &mut exits);
         self.clock += 1;
         exits.sort();
-        Ok(exits
-            .into_iter()
-            .map(|(_, line)| self.delivery(line))
-            .collect())
+        Ok(exits.into_iter().map(|(_, line)| self.delivery(line)).collect())
     }
 
     fn delivery(&self, line: usize) -> Delivery {
-        let Line {
-            flow,
-            serial,
-            d,
-            entry,
-            exit,
-            ..
-        } = self.lines[line].clone();
+        let Line { flow, serial, d, entry, exit, .. } = self.lines[line].clone();
         let (entry, (exit, _)) = (entry.unwrap(), exit.unwrap());
         [flow as i64, serial, entry, exit, d].map(|number| number.try_into().unwrap())
     }
@@ -169,10 +156,7 @@ impl Book {
 
     /// Rule 1 for a W packet, or none: does W of this router go S?
     fn w_goes_south(&self, old: &[Option<usize>], router: Router) -> bool {
-        match old[self.place_number(Place {
-            router,
-            side: Side::W,
-        })] {
+        match old[self.place_number(Place { router, side: Side::W })] {
             Some(line) => self.plan.flows[self.lines[line].flow].xd == router.column,
             None => false,
         }
@@ -207,17 +191,11 @@ impl Book {
             Way::South if at_destination => None,
             Way::South => {
                 let row = (row + 1) % self.plan.sy;
-                Some(Place {
-                    router: Router { row, column },
-                    side: Side::N,
-                })
+                Some(Place { router: Router { row, column }, side: Side::N })
             }
             Way::East => {
                 let column = (column + 1) % self.plan.sx;
-                Some(Place {
-                    router: Router { row, column },
-                    side: Side::W,
-                })
+                Some(Place { router: Router { row, column }, side: Side::W })
             }
         };
         self.lines[line].place = place;
@@ -233,14 +211,8 @@ impl Book {
     fn enter_lines(&mut self, old: &[Option<usize>], exits: &mut Vec<(Router, usize)>) {
         let mut taken = vec![false; self.plan.routers()];
         for flow in 0..self.plan.flows.len() {
-            let client = Router {
-                row: self.plan.flows[flow].ys,
-                column: self.plan.flows[flow].xs,
-            };
-            let number = self.place_number(Place {
-                router: client,
-                side: Side::W,
-            }) / 2;
+            let client = Router { row: self.plan.flows[flow].ys, column: self.plan.flows[flow].xs };
+            let number = self.place_number(Place { router: client, side: Side::W }) / 2;
             let ready = !self.waiting[flow].is_empty() && self.buckets[flow].tokens > 0;
             if ready && !taken[number] && self.port_open(old, client, self.plan.port(flow)) {
                 taken[number] = true;
@@ -277,10 +249,7 @@ impl Book {
         if bucket.tokens < burst {
             bucket.count += 1;
             if bucket.count == period {
-                *bucket = Bucket {
-                    tokens: bucket.tokens + 1,
-                    count: 0,
-                };
+                *bucket = Bucket { tokens: bucket.tokens + 1, count: 0 };
             }
         }
     }

@@ -6,5 +6,7 @@ pub mod calls;
 pub mod plan;
 pub mod promises;
 pub mod random;
+pub mod slips;
 pub mod state;
 pub mod window;
+pub mod worst;

@@ -30,14 +30,7 @@ impl Flow {
     }
 
     pub fn from_numbers([xs, ys, xd, yd, period, burst]: [i64; 6]) -> Flow {
-        Flow {
-            xs,
-            ys,
-            xd,
-            yd,
-            period,
-            burst,
-        }
+        Flow { xs, ys, xd, yd, period, burst }
     }
 }
 
@@ -70,11 +63,7 @@ impl Plan {
     }
 
     pub fn port(&self, f: usize) -> Port {
-        if self.dx(f) > 0 {
-            Port::East
-        } else {
-            Port::South
-        }
+        if self.dx(f) > 0 { Port::East } else { Port::South }
     }
 
     pub fn routers(&self) -> usize {
@@ -104,10 +93,7 @@ impl Plan {
 }
 
 fn little_endian(bytes: &[u8]) -> usize {
-    bytes
-        .iter()
-        .rev()
-        .fold(0, |number, &byte| 256 * number + byte as usize)
+    bytes.iter().rev().fold(0, |number, &byte| 256 * number + byte as usize)
 }
 
 /// Reads a plan file: the plan and the notes, or the first refusal of 1 to 7.
@@ -142,14 +128,7 @@ pub fn read(file: &[u8]) -> Result<(Plan, &[u8]), Refusal> {
         if period == 0 || burst == 0 || record[7] != 0 {
             return refuse(7, f);
         }
-        flows.push(Flow {
-            xs,
-            ys,
-            xd,
-            yd,
-            period,
-            burst,
-        });
+        flows.push(Flow { xs, ys, xd, yd, period, burst });
     }
     Ok((Plan { sx, sy, flows }, notes))
 }

@@ -11,7 +11,7 @@ impl Random {
         Random(seed)
     }
 
-    pub fn next(&mut self) -> u64 {
+    pub fn draw(&mut self) -> u64 {
         self.0 = self.0.wrapping_add(0x9E37_79B9_7F4A_7C15);
         let mut z = self.0;
         z = (z ^ (z >> 30)).wrapping_mul(0xBF58_476D_1CE4_E5B9);
@@ -20,16 +20,16 @@ impl Random {
     }
 
     pub fn word(&mut self) -> u32 {
-        self.next() as u32
+        self.draw() as u32
     }
 
     /// A number from low to high, both included.
     pub fn from(&mut self, low: i64, high: i64) -> i64 {
-        low + (self.next() % (high - low + 1) as u64) as i64
+        low + (self.draw() % (high - low + 1) as u64) as i64
     }
 
     pub fn index(&mut self, length: usize) -> usize {
-        (self.next() % length as u64) as usize
+        (self.draw() % length as u64) as usize
     }
 
     pub fn percent(&mut self, chance: i64) -> bool {
@@ -41,7 +41,7 @@ impl Random {
     }
 
     pub fn bytes(&mut self, length: usize) -> Vec<u8> {
-        (0..length).map(|_| self.next() as u8).collect()
+        (0..length).map(|_| self.draw() as u8).collect()
     }
 
     pub fn words(&mut self, length: usize) -> Vec<u32> {
@@ -59,9 +59,8 @@ pub fn flow_count(random: &mut Random) -> usize {
 /// self-addressed; periods and bursts are small, large or at their ends.
 pub fn plan(random: &mut Random, sx: i64, sy: i64, flows: usize) -> Plan {
     let clients = random.from(1, flows as i64) as usize;
-    let places: Vec<_> = (0..clients)
-        .map(|_| (random.from(0, sx - 1), random.from(0, sy - 1)))
-        .collect();
+    let places: Vec<_> =
+        (0..clients).map(|_| (random.from(0, sx - 1), random.from(0, sy - 1))).collect();
     let longest = random.pick(&[1, 3, 12, 60, 600, 65_535]);
     let largest = random.pick(&[1, 2, 4, 255]);
     let mut flow = || {
@@ -72,24 +71,9 @@ pub fn plan(random: &mut Random, sx: i64, sy: i64, flows: usize) -> Plan {
             2 => random.pick(&places),
             _ => (random.from(0, sx - 1), random.from(0, sy - 1)),
         };
-        let period = if random.percent(10) {
-            longest
-        } else {
-            random.from(1, longest)
-        };
-        let burst = if random.percent(10) {
-            largest
-        } else {
-            random.from(1, largest)
-        };
-        Flow {
-            xs,
-            ys,
-            xd,
-            yd,
-            period,
-            burst,
-        }
+        let period = if random.percent(10) { longest } else { random.from(1, longest) };
+        let burst = if random.percent(10) { largest } else { random.from(1, largest) };
+        Flow { xs, ys, xd, yd, period, burst }
     };
     let flows = (0..flows).map(|_| flow()).collect();
     Plan { sx, sy, flows }
@@ -126,27 +110,11 @@ pub fn state(random: &mut Random, plan: &Plan) -> Vec<u32> {
     let mut book = Book::new(plan.clone());
     book.clock = clock;
     for (f, flow) in plan.flows.iter().enumerate() {
-        let tokens = if random.percent(30) {
-            flow.burst
-        } else {
-            random.from(0, flow.burst)
-        };
-        let highest = if tokens == flow.burst {
-            0
-        } else {
-            flow.period - 1
-        };
-        let count = if random.percent(30) {
-            highest
-        } else {
-            random.from(0, highest)
-        };
+        let tokens = if random.percent(30) { flow.burst } else { random.from(0, flow.burst) };
+        let highest = if tokens == flow.burst { 0 } else { flow.period - 1 };
+        let count = if random.percent(30) { highest } else { random.from(0, highest) };
         book.buckets[f] = Bucket { tokens, count };
-        book.entered[f] = if random.percent(20) {
-            clock
-        } else {
-            random.from(0, clock)
-        };
+        book.entered[f] = if random.percent(20) { clock } else { random.from(0, clock) };
     }
     let mut words = crate::state::words(&book);
     for f in 0..plan.flows.len() {
@@ -200,12 +168,7 @@ fn packet(random: &mut Random, book: &Book, place: Place) -> Option<[i64; 4]> {
             _ => continue,
         };
         if e <= book.clock && book.entered[f] > 0 {
-            return Some([
-                f as i64 + 1,
-                random.from(1, book.entered[f]),
-                book.clock - e,
-                d,
-            ]);
+            return Some([f as i64 + 1, random.from(1, book.entered[f]), book.clock - e, d]);
         }
     }
     None

@@ -21,18 +21,10 @@ pub fn words(book: &Book) -> Vec<u32> {
     for &line in &book.placed {
         let line = &book.lines[line];
         let at = register_at(plan, line.place.unwrap());
-        let packet = [
-            line.flow as i64 + 1,
-            line.serial,
-            line.entry.unwrap(),
-            line.d,
-        ];
+        let packet = [line.flow as i64 + 1, line.serial, line.entry.unwrap(), line.d];
         words[at..at + PER_REGISTER].copy_from_slice(&packet);
     }
-    words
-        .into_iter()
-        .map(|word| word.try_into().unwrap())
-        .collect()
+    words.into_iter().map(|word| word.try_into().unwrap()).collect()
 }
 
 /// Where the words of a register start: by row, then column, W before N.
@@ -48,10 +40,7 @@ pub fn places(plan: &Plan) -> Vec<Place> {
     for row in 0..plan.sy {
         for column in 0..plan.sx {
             for side in [Side::W, Side::N] {
-                places.push(Place {
-                    router: Router { row, column },
-                    side,
-                });
+                places.push(Place { router: Router { row, column }, side });
             }
         }
     }
@@ -72,11 +61,7 @@ pub fn judge(memory: &[u32]) -> Result<Book, Refusal> {
         return refuse(9, 0);
     }
     let flow_at = |f: usize| HEADER + PER_FLOW * f;
-    let mut plan = Plan {
-        sx,
-        sy,
-        flows: Vec::new(),
-    };
+    let mut plan = Plan { sx, sy, flows: Vec::new() };
     let no_flow = Flow::from_numbers([0; 6]);
     plan.flows.resize(count as usize, no_flow);
     if memory.len() < plan.state_words() {
@@ -97,10 +82,7 @@ pub fn judge(memory: &[u32]) -> Result<Book, Refusal> {
         if !(on_torus && ranges && bucket && waiting <= 65_535 && entered <= clock) {
             return refuse(9, 0);
         }
-        book.buckets[f] = Bucket {
-            tokens,
-            count: counter,
-        };
+        book.buckets[f] = Bucket { tokens, count: counter };
         book.entered[f] = entered;
         for _ in 0..waiting {
             book.add_waiting_line(f);
@@ -120,16 +102,7 @@ pub fn judge(memory: &[u32]) -> Result<Book, Refusal> {
         book.placed.push(book.lines.len());
         let (offer, q, exit) = (entry, 0, None);
         let (entry, place) = (Some(entry), Some(place));
-        book.lines.push(Line {
-            flow,
-            serial,
-            offer,
-            q,
-            d,
-            entry,
-            place,
-            exit,
-        });
+        book.lines.push(Line { flow, serial, offer, q, d, entry, place, exit });
     }
     Ok(book)
 }

@@ -37,21 +37,14 @@ pub fn rivals(plan: &Plan, f: usize) -> Vec<Rival> {
 pub fn rivals_by(plan: &Plan, rule: impl Fn(usize) -> Option<i64>) -> Vec<Rival> {
     let rival = |g: usize| {
         let (burst, period) = (plan.flows[g].burst, plan.flows[g].period);
-        rule(g).map(|spread| Rival {
-            burst,
-            period,
-            spread,
-        })
+        rule(g).map(|spread| Rival { burst, period, spread })
     };
     (0..plan.flows.len()).filter_map(rival).collect()
 }
 
 /// I(t) = the sum of σ + ⌊(t−1+J)/P⌋.
 pub fn interference(rivals: &[Rival], t: i64) -> i64 {
-    rivals
-        .iter()
-        .map(|r| r.burst + (t - 1 + r.spread) / r.period)
-        .sum()
+    rivals.iter().map(|r| r.burst + (t - 1 + r.spread) / r.period).sum()
 }
 
 /// The least t from 1 to 65,535 with I(t) < t.
@@ -76,11 +69,7 @@ pub fn lone_wait(plan: &Plan, f: usize, window: i64) -> i64 {
 fn plan_with_flow(file: &[u8], flow: u32) -> Result<(Plan, usize), Refusal> {
     let (plan, _) = read(file)?;
     let flow = flow as usize;
-    if flow < plan.flows.len() {
-        Ok((plan, flow))
-    } else {
-        refuse(12, 0)
-    }
+    if flow < plan.flows.len() { Ok((plan, flow)) } else { refuse(12, 0) }
 }
 
 /// The window call: plan, 12, 14.
