@@ -56,7 +56,7 @@ impl Slip {
     pub fn window(self, plan: &Plan, f: usize) -> Option<i64> {
         let rivals: Vec<Rival> = rivals_by(plan, |g| self.spread(plan, f, g));
         if self == Slip::EqualAllowed {
-            return (1..=65_535).find(|&t| interference(&rivals, t) <= t);
+            return (1..=65_535).find(|&t| interference(&rivals, t) <= t).map(i64::from);
         }
         least_window(&rivals)
     }

@@ -24,9 +24,9 @@ pub fn spread(plan: &Plan, f: usize, g: usize) -> Option<i64> {
 /// A conflicting flow as I(t) sees it.
 #[derive(Clone, Copy)]
 pub struct Rival {
-    pub burst: i64,
-    pub period: i64,
-    pub spread: i64,
+    pub burst: u32,
+    pub period: u32,
+    pub spread: u32,
 }
 
 pub fn rivals(plan: &Plan, f: usize) -> Vec<Rival> {
@@ -36,20 +36,20 @@ pub fn rivals(plan: &Plan, f: usize) -> Vec<Rival> {
 /// The rivals by some rule that gives the spread of a flow that conflicts.
 pub fn rivals_by(plan: &Plan, rule: impl Fn(usize) -> Option<i64>) -> Vec<Rival> {
     let rival = |g: usize| {
-        let (burst, period) = (plan.flows[g].burst, plan.flows[g].period);
-        rule(g).map(|spread| Rival { burst, period, spread })
+        let (burst, period) = (plan.flows[g].burst as u32, plan.flows[g].period as u32);
+        rule(g).map(|spread| Rival { burst, period, spread: spread as u32 })
     };
     (0..plan.flows.len()).filter_map(rival).collect()
 }
 
 /// I(t) = the sum of σ + ⌊(t−1+J)/P⌋.
-pub fn interference(rivals: &[Rival], t: i64) -> i64 {
+pub fn interference(rivals: &[Rival], t: u32) -> u32 {
     rivals.iter().map(|r| r.burst + (t - 1 + r.spread) / r.period).sum()
 }
 
 /// The least t from 1 to 65,535 with I(t) < t.
 pub fn least_window(rivals: &[Rival]) -> Option<i64> {
-    (1..=65_535).find(|&t| interference(rivals, t) < t)
+    (1..=65_535).find(|&t| interference(rivals, t) < t).map(i64::from)
 }
 
 /// T of flow f.

@@ -1,0 +1,54 @@
+//! The bounds part: window, flight bound and notes.
+
+use super::{Tally, plans};
+use crate::host::{Bounds, returned_window};
+use crate::random::{self, Random};
+use crate::{calls, window};
+
+/// The refusals that these calls have.
+pub const REFUSALS: [usize; 9] = [1, 2, 3, 4, 5, 6, 7, 12, 14];
+
+fn all_three(host: &impl Bounds, tally: &mut Tally, file: &[u8], flow: u32) {
+    notes_and_flight(host, tally, file, flow);
+    let answer = window::window_call(file, flow);
+    let call = ("window", flow, file);
+    tally.counted(&call, answer, returned_window(answer), host.window(file, flow));
+}
+
+fn notes_and_flight(host: &impl Bounds, tally: &mut Tally, file: &[u8], flow: u32) {
+    tally.answer(&("notes", file), calls::notes(file), host.notes(file));
+    let answer = window::flight_call(file, flow);
+    tally.answer(&("flight", flow, file), answer, host.flight(file, flow));
+}
+
+/// Every boundary, once.
+pub fn boundaries(host: &impl Bounds, tally: &mut Tally) {
+    for file in plans::at_boundaries() {
+        all_three(host, tally, &file, 0);
+        for flow in [1, 2, 3, 255, 256, 257, 65_536, u32::MAX] {
+            notes_and_flight(host, tally, &file, flow);
+        }
+    }
+}
+
+/// A random plan on this torus, and damaged copies of its file.
+pub fn round(host: &impl Bounds, tally: &mut Tally, random: &mut Random, sx: i64, sy: i64) {
+    let flows = random::flow_count(random);
+    let plan = random::plan(random, sx, sy, flows);
+    let file = plan.file(&random::notes(random, &plan));
+    for flow in (0..flows as u32).chain([flows as u32, flows as u32 + 1, u32::MAX]) {
+        notes_and_flight(host, tally, &file, flow);
+    }
+    for _ in 0..4 {
+        all_three(host, tally, &file, random.index(flows + 1) as u32);
+    }
+    for _ in 0..20 {
+        let mut damaged = file.clone();
+        plans::damage(random, &mut damaged);
+        let flow = random.index(flows + 1) as u32;
+        notes_and_flight(host, tally, &damaged, flow);
+        if random.percent(10) {
+            all_three(host, tally, &damaged, flow);
+        }
+    }
+}
