@@ -26,10 +26,8 @@ fn main() {
         ["listing", program, ..] => second::compare::listing::run(program, seed, extent),
         _ => usage(),
     };
-    println!(
-        "{}: {} calls, {} words or bytes compared, no difference",
-        words[0], tally.calls, tally.words
-    );
+    let (part, Tally { calls, words, .. }) = (words[0], tally);
+    println!("{part}: {calls} answers and {words} words or bytes compared, no difference");
 }
 
 fn usage() -> ! {

@@ -79,13 +79,8 @@ impl<'a, E: Engine> List<'a, E> {
             1 if short => engine::step(self.host, tally, random, &mut self.state, 1280),
             2 if short => engine::reset(self.host, tally, &self.file, &mut self.state),
             2 => {
-                let length = random.index(self.file.len());
-                engine::reset(
-                    self.host,
-                    tally,
-                    &self.file[length..][..length.min(11)],
-                    &mut self.state,
-                )
+                let cut = &self.file[..random.index(self.file.len())];
+                engine::reset(self.host, tally, cut, &mut self.state)
             }
             _ => {
                 let notes = random.bytes(9);

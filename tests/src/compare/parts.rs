@@ -31,16 +31,16 @@ pub fn engine(host: &impl Engine, seed: u64, extent: Extent) -> Tally {
     let mut tally = Tally::new(seed);
     let mut random = Random::new(seed);
     states::boundaries(host, &mut tally, &mut random);
-    lists::full_queue(host, &mut tally, &mut random);
-    lists::worst_lists(host, &mut tally, &mut random);
-    for (size, flows) in [(4, 16), (8, 64), (16, 256)] {
-        let plan = plan(&mut random, size, size, flows);
-        lists::saturated(host, &mut tally, &mut random, plan, 60);
-    }
     rounds("engine", &mut tally, extent, |tally, random, sx, sy| {
         lists::round(host, tally, random, sx, sy);
         states::round(host, tally, random, sx, sy);
     });
+    lists::worst_lists(host, &mut tally, &mut random);
+    lists::full_queue(host, &mut tally, &mut random);
+    for (size, flows) in [(4, 16), (8, 64), (16, 256)] {
+        let plan = plan(&mut random, size, size, flows);
+        lists::saturated(host, &mut tally, &mut random, plan, 60);
+    }
     tally.must_have_refused(&engine::REFUSALS);
     tally
 }
