@@ -31,7 +31,7 @@ impl Given<'_> {
 }
 
 /// The second simulator with a fault.
-struct Faulty(fn(&mut Given));
+struct Faulty(Fault);
 
 impl Faulty {
     fn give(&self, mut given: Given) -> u64 {
@@ -63,7 +63,9 @@ impl Engine for Faulty {
     }
 }
 
-const FAULTS: &[(&str, fn(&mut Given))] = &[
+type Fault = fn(&mut Given);
+
+const FAULTS: &[(&str, Fault)] = &[
     ("a step that stands still", |given| {
         if given.stepped() {
             given.state[3] -= 1;
