@@ -2,6 +2,7 @@
 //! table, on the same memory; safe Rust with no heap.
 
 use second::host::{Bounds, Engine};
+use std::mem::replace;
 
 /// The plain engine.
 pub struct Plain;
@@ -244,13 +245,13 @@ fn in_place(state: &State, row: u32, column: u32, north: bool, register: &Regist
 }
 
 /// Which flow enters at each client (its number + 1), decided and spent; all buckets counted.
-fn enter(sx: usize, flows: &mut [FlowWords], old: &[Register]) -> [u16; 256] {
+fn enter(sx: usize, flows: &mut [FlowWords], registers: &[Register]) -> [u16; 256] {
     let mut entering = [0; 256];
     for f in 0..flows.len() {
         let [xs, ys, xd, _, period, burst, mut tokens, mut count, _, waiting] = flows[f];
         let client = ys as usize * sx + xs as usize;
         if waiting > 0 && tokens > 0 && entering[client] == 0 {
-            let (w, n) = (old[2 * client][0], old[2 * client + 1][0]);
+            let (w, n) = (registers[2 * client][0], registers[2 * client + 1][0]);
             let turns = |w: u32| flows[w as usize - 1][2] == xs;
             let open = if xs != xd { w == 0 } else { n == 0 && (w == 0 || !turns(w)) };
             if open {
@@ -272,26 +273,30 @@ fn enter(sx: usize, flows: &mut [FlowWords], old: &[Register]) -> [u16; 256] {
     entering
 }
 
-/// What moves in a cycle: the old registers and the flows that enter.
+/// What moves in a cycle beside the registers: the flows, and those that enter.
 struct Cycle<'a> {
     sx: usize,
     sy: usize,
     clock: u32,
     flows: &'a [FlowWords],
-    old: &'a [Register],
-    entering: &'a [u16; 256],
+    entering: [u16; 256],
 }
 
-/// Moves every packet and writes the exits. Gives their count.
+/// Moves every packet and writes the exits. Gives their count. A register is written only once its
+/// old packet has been taken: the next W is held, and the N registers of the row to come.
 fn route(cycle: &Cycle, registers: &mut [Register], delivery: &mut [[u32; 5]]) -> usize {
-    let &Cycle { sx, sy, clock, flows, old, entering } = cycle;
+    let &Cycle { sx, sy, clock, flows, ref entering } = cycle;
     let mut exits = 0;
+    let mut north = [EMPTY; 16];
+    for (column, n) in north[..sx].iter_mut().enumerate() {
+        *n = registers[2 * column + 1];
+    }
     for row in 0..sy {
-        let below = next(row, sy) * sx;
-        for column in 0..sx {
-            let router = row * sx + column;
-            let (w, n) = (old[2 * router], old[2 * router + 1]);
-            let (mut east, mut south) = (EMPTY, EMPTY);
+        let (this, below) = (row * sx, next(row, sy) * sx);
+        let mut w = registers[2 * this];
+        for (column, n) in north[..sx].iter_mut().enumerate() {
+            let mut east = EMPTY;
+            let mut south = EMPTY;
             if w[0] != 0 {
                 let turns = flows[w[0] as usize - 1][2] == column as u32;
                 *(if turns { &mut south } else { &mut east }) = w;
@@ -300,12 +305,13 @@ fn route(cycle: &Cycle, registers: &mut [Register], delivery: &mut [[u32; 5]]) -
                 if south[0] != 0 {
                     east = [n[0], n[1], n[2], n[3] + 1];
                 } else {
-                    south = n;
+                    south = *n;
                 }
             }
-            if entering[router] != 0 {
-                let flow = &flows[entering[router] as usize - 1];
-                let packet = [entering[router] as u32, flow[8], clock, 0];
+            let number = entering[this + column];
+            if number != 0 {
+                let flow = &flows[number as usize - 1];
+                let packet = [number as u32, flow[8], clock, 0];
                 *(if flow[0] == flow[2] { &mut south } else { &mut east }) = packet;
             }
             if south[0] != 0 && flows[south[0] as usize - 1][3] == row as u32 {
@@ -313,8 +319,8 @@ fn route(cycle: &Cycle, registers: &mut [Register], delivery: &mut [[u32; 5]]) -
                 exits += 1;
                 south = EMPTY;
             }
-            registers[2 * (row * sx + next(column, sx))] = east;
-            registers[2 * (below + column) + 1] = south;
+            w = replace(&mut registers[2 * (this + next(column, sx))], east);
+            *n = replace(&mut registers[2 * (below + column) + 1], south);
         }
     }
     exits
@@ -357,7 +363,7 @@ impl Engine for Plain {
     }
 
     fn step(&self, words: &mut [u32], delivery: &mut [u32]) -> u64 {
-        let State { sx, sy, clock, flows, registers } = match state(words) {
+        let State { sx, sy, clock, flows, .. } = match state(words) {
             Ok(state) => state,
             Err(no) => return no,
         };
@@ -367,16 +373,13 @@ impl Engine for Plain {
         if clock == u32::MAX {
             return refused(11, 0);
         }
-        let mut memory = [EMPTY; 512];
-        let old = &mut memory[..registers.len()];
-        old.copy_from_slice(registers);
         let count = flows.len();
         words[3] = clock + 1;
         let (flows, registers) = words[8..].split_at_mut(10 * count);
         let flows = flows.as_chunks_mut().0;
         let registers = &mut registers.as_chunks_mut().0[..2 * sx * sy];
-        let entering = &enter(sx, flows, old);
-        let cycle = Cycle { sx, sy, clock, flows, old, entering };
+        let entering = enter(sx, flows, registers);
+        let cycle = Cycle { sx, sy, clock, flows, entering };
         route(&cycle, registers, delivery.as_chunks_mut().0) as u64
     }
 

@@ -1,6 +1,7 @@
 //! 01's "Cases on both sides", on the second simulator alone.
 
 use second::book::{Book, Router};
+use second::compare::plans::last_window;
 use second::plan::{Flow, Plan, Refusal, read};
 use second::state::{judge, words};
 use second::window::{flight_bound, listing, spread, window, window_call};
@@ -62,6 +63,12 @@ fn windows() {
     }
     let plan = four_by_four(&[[0, 2, 0, 3, 10, 1], [0, 0, 0, 3, 8, 1]]);
     assert_eq!((spread(&plan, 0, 1), window(&plan, 0)), (Some(8), Some(3)));
+}
+
+#[test]
+fn the_last_window() {
+    assert_eq!(window(&last_window(1), 0), Some(65_535));
+    assert_eq!(window_call(&last_window(2).file(&[]), 0), no(14, 0));
 }
 
 #[test]

@@ -26,8 +26,12 @@ fn main() {
         ["listing", program, ..] => second::compare::listing::run(program, seed, extent),
         _ => usage(),
     };
-    let (part, Tally { calls, words, .. }) = (words[0], tally);
-    println!("{part}: {calls} answers and {words} words or bytes compared, no difference");
+    for ((call, number), count) in &tally.answers {
+        let answer = if *number == 0 { "accepted".into() } else { format!("refused {number}") };
+        println!("{call:8} {answer:10} {count:9}");
+    }
+    let (part, calls, memory) = (words[0], tally.calls(), tally.words);
+    println!("{part}: {calls} answers and {memory} words or bytes compared, no difference");
 }
 
 fn usage() -> ! {

@@ -1,24 +1,30 @@
 //! The bounds part: window, flight bound and notes.
 
-use super::{Tally, plans};
+use super::{Call, Tally, plans};
 use crate::host::{Bounds, returned_window};
 use crate::random::{self, Random};
 use crate::{calls, window};
 
-/// The refusals that these calls have.
-pub const REFUSALS: [usize; 9] = [1, 2, 3, 4, 5, 6, 7, 12, 14];
+/// Each call has been accepted, and refused with each number that it has.
+pub fn all_came_up(tally: &Tally) {
+    tally.must_have_come_up("notes", &[1, 2, 3, 4, 5, 6, 7]);
+    tally.must_have_come_up("flight", &[1, 2, 3, 4, 5, 6, 7, 12]);
+    tally.must_have_come_up("window", &[1, 2, 3, 4, 5, 6, 7, 12, 14]);
+}
 
 fn all_three(host: &impl Bounds, tally: &mut Tally, file: &[u8], flow: u32) {
     notes_and_flight(host, tally, file, flow);
     let answer = window::window_call(file, flow);
-    let call = ("window", flow, file);
-    tally.counted(&call, answer, returned_window(answer), host.window(file, flow));
+    let call = Call { name: "window", with: &(flow, file) };
+    let got = host.window(file, flow);
+    tally.returned(call, answer, returned_window(answer) as u64, got as u64);
 }
 
 fn notes_and_flight(host: &impl Bounds, tally: &mut Tally, file: &[u8], flow: u32) {
-    tally.answer(&("notes", file), calls::notes(file), host.notes(file));
-    let answer = window::flight_call(file, flow);
-    tally.answer(&("flight", flow, file), answer, host.flight(file, flow));
+    let call = Call { name: "notes", with: &file };
+    tally.answer(call, calls::notes(file), host.notes(file));
+    let call = Call { name: "flight", with: &(flow, file) };
+    tally.answer(call, window::flight_call(file, flow), host.flight(file, flow));
 }
 
 /// Every boundary, once.

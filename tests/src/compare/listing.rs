@@ -39,7 +39,7 @@ fn compare(program: &str, tally: &mut Tally, file: &[u8]) {
     let _ = child.stdin.take().unwrap().write_all(file);
     let output = child.wait_with_output().unwrap();
     let got = String::from_utf8_lossy(&output.stdout);
-    tally.calls += 1;
+    *tally.answers.entry(("listing", 0)).or_default() += 1;
     tally.words += got.len() as u64;
     assert_eq!(expected, got, "seed {}, file {file:?}", tally.seed);
     assert!(output.status.success(), "seed {}: {}", tally.seed, output.status);

@@ -1,7 +1,7 @@
 //! Lists of calls after a reset: the book is fed each call's kind and arguments, and after each
 //! call its answer, its deliveries and the words of its state are compared, whole.
 
-use super::{Tally, Twin, engine};
+use super::{Call, Tally, Twin, engine};
 use crate::book::{Book, Delivery};
 use crate::calls::Answer;
 use crate::host::Engine;
@@ -39,7 +39,7 @@ impl<'a, E: Engine> List<'a, E> {
     pub fn offer(&mut self, tally: &mut Tally, flow: u32) {
         let expected = self.book.offer(flow);
         let got = self.host.offer(self.state.got(), flow);
-        self.compare(tally, ("offer", flow as usize), expected, got);
+        self.compare(tally, "offer", flow as usize, expected, got);
     }
 
     /// A step that is lent so many words for its deliveries.
@@ -53,16 +53,24 @@ impl<'a, E: Engine> List<'a, E> {
             self.delivered.extend(exits);
         }
         let got = self.host.step(self.state.got(), delivery.got());
-        self.compare(tally, ("step", room), expected, got);
-        tally.memory(&("deliveries", &self.file), &delivery);
+        self.compare(tally, "step", room, expected, got);
+        let with = &("deliveries", self.book.clock, &self.file);
+        tally.memory(Call { name: "step", with }, &delivery);
     }
 
-    fn compare(&mut self, tally: &mut Tally, call: (&str, usize), expected: Answer, got: u64) {
+    fn compare(
+        &mut self,
+        tally: &mut Tally,
+        name: &'static str,
+        with: usize,
+        expected: Answer,
+        got: u64,
+    ) {
         let words = words(&self.book);
         self.state.expected()[..words.len()].copy_from_slice(&words);
-        let call = (call, "at clock", self.book.clock, "with plan", &self.file);
-        tally.answer(&call, expected, got);
-        tally.memory(&call, &self.state);
+        let call = Call { name, with: &(with, "clock", self.book.clock, "plan", &self.file) };
+        tally.answer(call, expected, got);
+        tally.memory(call, &self.state);
         check_live(&self.book, &self.windows);
     }
 

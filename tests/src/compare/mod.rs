@@ -12,50 +12,55 @@ pub mod states;
 use crate::calls::Answer;
 use crate::host::returned;
 use crate::random::Random;
+use std::collections::BTreeMap;
 use std::fmt::Debug;
 use std::ops::Range;
+
+/// A call that is compared: its name, and what tells which one it was.
+#[derive(Clone, Copy)]
+pub struct Call<'a> {
+    pub name: &'static str,
+    pub with: &'a dyn Debug,
+}
 
 /// What has been compared so far.
 pub struct Tally {
     /// The seed of the round that runs now.
     pub seed: u64,
-    pub calls: u64,
+    /// For each call, how often it was refused with each number, or accepted (0).
+    pub answers: BTreeMap<(&'static str, u64), u64>,
     pub words: u64,
-    /// How often each refusal was expected, by number.
-    pub refused: [u64; 16],
 }
 
 impl Tally {
     pub fn new(seed: u64) -> Tally {
-        Tally { seed, calls: 0, words: 0, refused: [0; 16] }
+        Tally { seed, answers: BTreeMap::new(), words: 0 }
+    }
+
+    pub fn calls(&self) -> u64 {
+        self.answers.values().sum()
     }
 
     /// Compares what a call answered.
-    pub fn answer(&mut self, call: &dyn Debug, expected: Answer, got: u64) {
-        self.counted(call, expected, returned(expected), got);
+    pub fn answer(&mut self, call: Call, expected: Answer, got: u64) {
+        self.returned(call, expected, returned(expected), got);
     }
 
-    pub fn counted<T: PartialEq + Debug>(
-        &mut self,
-        call: &dyn Debug,
-        expected: Answer,
-        returned: T,
-        got: T,
-    ) {
-        self.calls += 1;
-        if let Err(no) = expected {
-            self.refused[no.number as usize] += 1;
+    /// Compares what a call returned for this answer.
+    pub fn returned(&mut self, call: Call, answer: Answer, expected: u64, got: u64) {
+        let number = answer.map_or_else(|no| no.number, |_| 0);
+        *self.answers.entry((call.name, number)).or_default() += 1;
+        if expected != got {
+            self.differ(call, format!("expected {expected} ({answer:?}), got {got}"));
         }
-        if returned != got {
-            panic!(
-                "seed {}, {call:?}: expected {returned:?} ({expected:?}), got {got:?}",
-                self.seed
-            );
-        }
+    }
+
+    fn differ(&self, call: Call, how: String) -> ! {
+        panic!("seed {}, {}: {how}; {:?}", self.seed, call.name, call.with);
     }
 
     /// Compares lent memory, whole.
-    pub fn memory<T: PartialEq + Debug>(&mut self, call: &dyn Debug, lent: &Twin<T>) {
+    pub fn memory<T: PartialEq + Debug>(&mut self, call: Call, lent: &Twin<T>) {
         self.words += lent.expected.len() as u64;
         if lent.expected == lent.got {
             return;
@@ -64,13 +69,13 @@ impl Tally {
         let at = (0..lent.expected.len()).find(differ).unwrap();
         let (expected, got) = (&lent.expected[at], &lent.got[at]);
         let place = at as i64 - lent.lent.start as i64;
-        panic!("seed {}, {call:?}: place {place}: expected {expected:?}, got {got:?}", self.seed);
+        self.differ(call, format!("place {place}: expected {expected:?}, got {got:?}"));
     }
 
-    /// Each of these refusals must have come up.
-    pub fn must_have_refused(&self, numbers: &[usize]) {
-        for &number in numbers {
-            assert!(self.refused[number] > 0, "refusal {number} never came up");
+    /// The call must have been accepted, and refused with each of these numbers.
+    pub fn must_have_come_up(&self, call: &'static str, numbers: &[u64]) {
+        for &number in [0].iter().chain(numbers) {
+            assert!(self.answers.contains_key(&(call, number)), "{call}: {number} never came up");
         }
     }
 }

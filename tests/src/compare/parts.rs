@@ -22,7 +22,7 @@ pub fn bounds(host: &impl Bounds, seed: u64, extent: Extent) -> Tally {
     rounds("bounds", &mut tally, extent, |tally, random, sx, sy| {
         bounds::round(host, tally, random, sx, sy);
     });
-    tally.must_have_refused(&bounds::REFUSALS);
+    bounds::all_came_up(&tally);
     tally
 }
 
@@ -41,7 +41,7 @@ pub fn engine(host: &impl Engine, seed: u64, extent: Extent) -> Tally {
         let plan = plan(&mut random, size, size, flows);
         lists::saturated(host, &mut tally, &mut random, plan, 60);
     }
-    tally.must_have_refused(&engine::REFUSALS);
+    engine::all_came_up(&tally);
     tally
 }
 
@@ -68,7 +68,7 @@ pub(super) fn rounds(
             eprintln!(
                 "{part}: {seconds} s, {} rounds, {} calls, {} words",
                 number + 1,
-                tally.calls,
+                tally.calls(),
                 tally.words
             );
         }

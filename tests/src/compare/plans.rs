@@ -10,7 +10,17 @@ pub fn at_boundaries() -> Vec<Vec<u8>> {
         files.extend(changed(&file, &[0, 17]));
     }
     files.extend(lengths());
+    files.extend([1, 2].map(|burst| last_window(burst).file(&[])));
     files
+}
+
+/// Flow 0's window is 65,535 with burst 1 of flow 2, and with burst 2 it would be one of 65,536 or
+/// more: eight rivals with periods 2, 4 to 256, each with spread 1.
+pub fn last_window(burst: i64) -> Plan {
+    let flow = |ys, period, burst| Flow::from_numbers([0, ys, 0, 1, period, burst]);
+    let mut flows = vec![flow(1, 1, 1), flow(0, 2, 255), flow(0, 4, burst)];
+    flows.extend((3..=8).map(|power| flow(0, 1 << power, 1)));
+    Plan { sx: 1, sy: 2, flows }
 }
 
 /// Three flows on a 5 by 3 torus, with notes.
