@@ -17,7 +17,7 @@ fn cases(loads: &[Load]) -> Vec<Case> {
 
 /// Window of each flow, and the bounds of the whole listing.
 pub fn bounds(archive: &impl Bounds) {
-    for case in cases(&[Load::Light, Load::Close, Load::Saturated]) {
+    for case in cases(&[Load::Light, Load::Climbing, Load::Saturated]) {
         let flows = case.flows;
         print_row(
             "window",

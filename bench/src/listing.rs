@@ -41,7 +41,7 @@ pub fn time(program: &str) {
     let this = std::env::current_exe().unwrap();
     print_header();
     for (size, flows) in SIZES {
-        for load in [Load::Light, Load::Close, Load::Saturated] {
+        for load in [Load::Light, Load::Climbing, Load::Saturated] {
             let case = case(size, flows, load);
             let plain = || run(Command::new(&this).arg("plain-listing"), &case.file);
             let proved = || run(&mut Command::new(program), &case.file);

@@ -8,11 +8,11 @@ use second::random::Random;
 /// How much traffic a plan asks for.
 #[derive(Clone, Copy, Debug, PartialEq)]
 pub enum Load {
-    /// Each flow sends seldom: a tenth of what its links carry.
+    /// Flows all over the torus that send seldom.
     Light,
-    /// The rivals' rates nearly fill the links, so that the window search goes far.
-    Close,
-    /// Each flow sends whenever it can.
+    /// Flows of one client that nearly fill it: windows near 65,535, found by many small leaps.
+    Climbing,
+    /// Flows all over the torus that send whenever they can.
     Saturated,
 }
 
@@ -26,20 +26,29 @@ pub struct Case {
     pub file: Vec<u8>,
 }
 
-/// One flow from every client to a random one.
+/// One flow from every client to a random one; or, climbing, all flows from one client.
 pub fn case(size: i64, flows: usize, load: Load) -> Case {
     let mut random = Random::new(flows as u64);
-    let (period, burst) = match load {
-        Load::Light => (10 * flows as i64, 1),
-        Load::Close => (flows as i64 * 2 / 3, 8),
-        Load::Saturated => (1, 2),
-    };
+    let count = flows as i64;
     let flow = |f: i64| {
+        let (xs, ys) = (f % size, f / size);
         let (xd, yd) = (random.from(0, size - 1), random.from(0, size - 1));
-        Flow { xs: f % size, ys: f / size, xd, yd, period, burst }
+        match load {
+            Load::Light => Flow { xs, ys, xd, yd, period: 10 * count, burst: 1 },
+            Load::Saturated => Flow { xs, ys, xd, yd, period: 1, burst: 2 },
+            Load::Climbing => {
+                Flow { xs: 0, ys: 0, xd, yd, period: count, burst: climbing_burst(f, count) }
+            }
+        }
     };
-    let plan = Plan { sx: size, sy: size, flows: (0..flows as i64).map(flow).collect() };
+    let plan = Plan { sx: size, sy: size, flows: (0..count).map(flow).collect() };
     Case { size, flows, load, file: plan.file(&[]) }
+}
+
+/// With count − 1 rivals of period count, T is count × (their bursts − count + 2).
+fn climbing_burst(f: i64, count: i64) -> i64 {
+    let bursts = 65_535 / count + count - 2;
+    (bursts / count + (f < bursts % count) as i64).min(255)
 }
 
 impl Case {

@@ -45,7 +45,8 @@ fn agree() {
     for tally in [parts::bounds(&Plain, 1, Extent::Gate), parts::engine(&Plain, 1, Extent::Gate)] {
         println!(
             "plain: {} answers and {} words or bytes, no difference",
-            tally.calls(), tally.words
+            tally.calls(),
+            tally.words
         );
     }
 }

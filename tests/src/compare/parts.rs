@@ -1,5 +1,5 @@
-//! The parts of the comparison: fixed boundaries first, then rounds, each of which takes the next
-//! torus of the 256 sizes and has a seed of its own.
+//! The parts of the comparison: fixed boundaries first, then rounds. Each round has a seed of its
+//! own, the last one's + 1, which gives the torus too, so that 256 rounds go through all sizes.
 
 use super::{Tally, bounds, engine, lists, states};
 use crate::host::{Bounds, Engine};
@@ -59,8 +59,8 @@ pub(super) fn rounds(
             Extent::Seconds(most) if began.elapsed().as_secs() >= most => break,
             _ => {}
         }
-        let (sx, sy) = (1 + number as i64 % 16, 1 + number as i64 / 16 % 16);
-        round(tally, &mut Random::new(tally.seed), sx, sy);
+        let (sx, sy) = (1 + tally.seed % 16, 1 + tally.seed / 16 % 16);
+        round(tally, &mut Random::new(tally.seed), sx as i64, sy as i64);
         tally.seed += 1;
         if told.elapsed() >= Duration::from_secs(5) {
             told = Instant::now();
