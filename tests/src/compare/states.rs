@@ -49,9 +49,19 @@ fn telling_values(word: u32) -> Vec<u32> {
     near.into_iter().chain(ends).chain([u32::MAX - 1, u32::MAX]).collect()
 }
 
-/// Offer, step and write, each on its own copy of the words.
+/// Offer, step and write, each on its own copy of the words, with some noise past them.
 fn three_calls(host: &impl Engine, tally: &mut Tally, random: &mut Random, state: &[u32]) {
     let past = random.index(5);
+    calls_with_past(host, tally, random, state, past);
+}
+
+fn calls_with_past(
+    host: &impl Engine,
+    tally: &mut Tally,
+    random: &mut Random,
+    state: &[u32],
+    past: usize,
+) {
     let flows = state.get(2).map_or(1, |&flows| flows.min(300));
     let routers = match state {
         [sx, sy, ..] => (*sx as usize).min(17) * (*sy as usize).min(17),
@@ -65,26 +75,32 @@ fn three_calls(host: &impl Engine, tally: &mut Tally, random: &mut Random, state
         2..5 => 5 * routers + random.index(9),
         _ => 5 * routers,
     };
-    let twin = &mut Twin::words(random, state, past);
-    engine::step(host, tally, random, twin, room);
-    write(host, tally, random, state, flows as usize);
+    let stepped = &mut Twin::words(random, state, past);
+    engine::step(host, tally, random, stepped, room);
+    let written = &mut Twin::words(random, state, past);
+    write(host, tally, random, written, flows as usize);
 }
 
 /// Writing with lengths about their limits: the target's, or seldom the longest file's.
-fn write(host: &impl Engine, tally: &mut Tally, random: &mut Random, state: &[u32], flows: usize) {
+fn write(
+    host: &impl Engine,
+    tally: &mut Tally,
+    random: &mut Random,
+    state: &mut Twin<u32>,
+    flows: usize,
+) {
     let least = 8 * flows + 12;
     let near = |random: &mut Random, length: usize| (length + random.index(3)).saturating_sub(1);
     let notes = if random.percent(3) { near(random, MOST_BYTES - least) } else { random.index(20) };
     let room = if random.percent(10) { random.index(40) } else { near(random, notes + least) };
     let notes = random.bytes(notes);
-    let twin = &mut Twin::words(random, state, 3);
-    engine::write(host, tally, random, twin, &notes, room);
+    engine::write(host, tally, random, state, &notes, room);
 }
 
-/// The state lent in part: each length from 0 to a little more than its size.
+/// The state lent in part: each length from 0 to its size.
 fn lent_lengths(host: &impl Engine, tally: &mut Tally, random: &mut Random, state: &[u32]) {
-    for length in 0..state.len() {
-        three_calls(host, tally, random, &state[..length]);
+    for length in 0..=state.len() {
+        calls_with_past(host, tally, random, &state[..length], 0);
     }
 }
 
