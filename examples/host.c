@@ -1,11 +1,12 @@
-/* A host to start from: reads a plan file, prints each flow's bounds, then offers one packet of
- * each flow and steps until all of them have left.
+/* A host to start from: reads a plan file, prints each flow's bounds, offers one packet of each
+ * flow and steps until all of them have left. Last it writes the plan back from the state.
  *
  *     host PLAN
  */
 #include "hrt.h"
 
 #include <stdio.h>
+#include <string.h>
 
 enum {
     MOST_BYTES = 65536,                        /* of a plan file */
@@ -17,6 +18,7 @@ enum {
 static uint8_t plan[MOST_BYTES + 1];
 static uint32_t state[MOST_WORDS];
 static uint32_t delivery[MOST_DELIVERY];
+static uint8_t written[MOST_BYTES];
 
 /* A refused call answers number * 2^32 + place. */
 static int is_refused(const char *call, uint64_t answer)
@@ -63,6 +65,17 @@ static int run(uint32_t packets)
     return 0;
 }
 
+/* Writes the plan back, with its notes, and says whether it is the file that was read. */
+static int write_back(size_t bytes, size_t notes)
+{
+    uint64_t length = hrt_write(state, MOST_WORDS, plan, notes, written, MOST_BYTES);
+    if (is_refused("write", length))
+        return 1;
+    int same = length == bytes && memcmp(plan, written, bytes) == 0;
+    printf("the plan written back is %s\n", same ? "the same" : "another");
+    return !same;
+}
+
 int main(int argc, char **argv)
 {
     FILE *file = argc == 2 ? fopen(argv[1], "rb") : NULL;
@@ -83,5 +96,5 @@ int main(int argc, char **argv)
     for (uint32_t flow = 0; flow < flows; flow++)
         if (is_refused("offer", hrt_offer(state, MOST_WORDS, flow)))
             return 1;
-    return run(flows);
+    return run(flows) || write_back(bytes, (size_t)notes);
 }
