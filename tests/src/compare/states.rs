@@ -1,11 +1,11 @@
 //! States that no run reaches, damaged words, and lent lengths from 0.
 
 use super::{Tally, Twin, engine, plans};
-use crate::book::Book;
+use crate::book::{Book, Side};
 use crate::host::Engine;
 use crate::plan::{Flow, MOST_BYTES, Plan};
 use crate::random::{self, Random};
-use crate::state::{HEADER, PER_FLOW, PER_REGISTER, words};
+use crate::state::{HEADER, PER_FLOW, PER_REGISTER, places, register_at, words};
 
 /// Every boundary of reset, and every word of a small state set to each telling value.
 pub fn boundaries(host: &impl Engine, tally: &mut Tally, random: &mut Random) {
@@ -129,26 +129,67 @@ pub fn round(host: &impl Engine, tally: &mut Tally, random: &mut Random, sx: i64
     engine::reset(host, tally, &damaged, &mut memory);
 }
 
-/// Damages a word or two: any word, or a register's with its packet moved on by whole laps.
+/// Damages the words in one or two ways. They may still form a state.
 fn damage(random: &mut Random, plan: &Plan, state: &mut Vec<u32>) {
-    let registers = HEADER + PER_FLOW * plan.flows.len();
     for _ in 0..random.from(1, 2) {
-        let at = match random.from(0, 9) {
-            0 => random.index(HEADER),
-            1..4 => HEADER + random.index(registers - HEADER),
-            4..7 => random.index(state.len()),
-            _ => registers + random.index(state.len() - registers),
-        };
-        let values = telling_values(state[at]);
-        state[at] = if random.percent(20) { random.word() } else { random.pick(&values) };
-        if at >= registers && random.percent(50) {
-            let packet = at - (at - registers) % PER_REGISTER;
-            let laps = random.from(1, 2) as u32;
-            state[packet + 3] = state[packet + 3].wrapping_add(laps);
-            state[packet + 2] = state[packet + 2].wrapping_sub(laps * plan.sx as u32);
+        match random.from(0, 9) {
+            0..4 => any_word(random, plan, state),
+            4..6 => flow_at_its_ends(random, plan, state),
+            _ => packet_nearly_in_place(random, plan, state),
         }
     }
     if random.percent(5) {
         state.truncate(random.index(state.len()));
     }
+}
+
+fn any_word(random: &mut Random, plan: &Plan, state: &mut [u32]) {
+    let registers = HEADER + PER_FLOW * plan.flows.len();
+    let at = match random.from(0, 9) {
+        0 => random.index(HEADER),
+        1..4 => HEADER + random.index(registers - HEADER),
+        4..7 => random.index(state.len()),
+        _ => registers + random.index(state.len() - registers),
+    };
+    let values = telling_values(state[at]);
+    state[at] = if random.percent(20) { random.word() } else { random.pick(&values) };
+}
+
+/// A flow whose period, burst, tokens, count, entered and waiting are each at an end of its range,
+/// or one past it.
+fn flow_at_its_ends(random: &mut Random, plan: &Plan, state: &mut [u32]) {
+    let at = HEADER + PER_FLOW * random.index(plan.flows.len());
+    let past =
+        |random: &mut Random, end: u32| if random.percent(15) { end.wrapping_add(1) } else { end };
+    let period: u32 = random.pick(&[0, 1, 2, 65_535, 65_536]);
+    let burst = random.pick(&[0, 1, 2, 255, 256]);
+    let tokens = random.pick(&[0, burst]);
+    let count = if random.percent(50) { 0 } else { period.wrapping_sub(1) };
+    let waiting = if random.percent(5) { 65_535 } else { 1 };
+    let ends = [tokens, count, state[3], waiting].map(|end| past(random, end));
+    state[at + 4..at + 6].copy_from_slice(&[period, burst]);
+    state[at + 6..at + 10].copy_from_slice(&ends);
+}
+
+/// A packet with the right entry cycle for its place, whether or not it may be there: rows, columns,
+/// deflections and serials in their ranges or just out of them.
+fn packet_nearly_in_place(random: &mut Random, plan: &Plan, state: &mut [u32]) {
+    let places = places(plan);
+    let place = places[random.index(places.len())];
+    let f = random.index(plan.flows.len());
+    let (flow, dx) = (plan.flows[f], plan.dx(f));
+    let r = (place.router.row - flow.ys).rem_euclid(plan.sy);
+    let from_source = (place.router.column - flow.xs).rem_euclid(plan.sx);
+    let from_turn = (place.router.column - flow.xd - 1).rem_euclid(plan.sx) + 1;
+    let d = random.from(0, r + 1);
+    let e = match place.side {
+        Side::N => dx + r + d * plan.sx,
+        Side::W if r == 0 => from_source,
+        Side::W => dx + r + (d - 1) * plan.sx + from_turn,
+    };
+    let entered = state[HEADER + PER_FLOW * f + 8];
+    let serial = random.pick(&[0, 1, entered, entered, entered, entered.wrapping_add(1)]);
+    let entry = state[3].wrapping_sub(e as u32);
+    let at = register_at(plan, place);
+    state[at..at + PER_REGISTER].copy_from_slice(&[f as u32 + 1, serial, entry, d as u32]);
 }
