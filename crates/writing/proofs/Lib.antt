@@ -1,0 +1,1 @@
+-- The laws of writing, and the file that comes back.
