@@ -1,1 +1,2 @@
--- The definitions are those of crates plan and state.
+-- Writing the bytes of a plan.
+pub mod Bytes

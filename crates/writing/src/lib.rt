@@ -10,12 +10,13 @@ ghost use Rattle.laws.specs.Count.{joinBelow};
 ghost use Rattle.flow.specs.Plan.{FlowOk, mostSize};
 ghost use Rattle.plan.specs.Layout.{recordSize, trailerSize, tag};
 ghost use Rattle.plan.specs.Bytes.{twoBytes, fourBytes};
-ghost use Rattle.plan.specs.Written.{recordBytes};
+ghost use Rattle.plan.specs.Written.{recordBytes, planBytes};
 ghost use Rattle.state.specs.Layout.{flowPlace};
-ghost use Rattle.state.specs.Read.{countIn, flowIn};
+ghost use Rattle.state.specs.Read.{countIn, flowIn, planIn};
 ghost use Rattle.state.specs.Forms.{stateNumber};
 ghost use Rattle.state.specs.Outcome.{outcome};
 ghost use Rattle.state.specs.Calls.{writeOn};
+ghost use Rattle.writing.specs.Bytes.{bytesOn};
 
 // Writes four bytes at a place.
 fn put_bytes(target: &mut [u8], at: usize, a: u8, b: u8, c: u8, d: u8)
@@ -63,13 +64,11 @@ fn put_records(state: &[u32], count: usize, target: &mut [u8], start: usize)
     }
 }
 
-// Writes the trailer at a place.
-fn put_trailer(target: &mut [u8], at: usize, start: u32, count: u32, sx: u32, sy: u32)
-    requires { ⌜ at + trailerSize ≤ length (now target) ⌝ }
-    requires { ⌜ (sx ≤ mostSize) × (sy ≤ mostSize) ⌝ }
-    ensures { λ _. ⌜ now (target .exit) ≡ sets (now (target .entry)) at (fourBytes start ++ twoBytes count ++ (sx ∷ sy ∷ []) ++ tag) ⌝ }
+// Writes a start at a place.
+fn put_start(target: &mut [u8], at: usize, start: u32)
+    requires { ⌜ at + 4 ≤ length (now target) ⌝ }
+    ensures { λ _. ⌜ now (target .exit) ≡ sets (now (target .entry)) at (fourBytes start) ⌝ }
 {
-    let tag = b"HRTP";
     let bottom = start % 65536;
     let top = start / 65536;
     put_bytes(
@@ -80,15 +79,35 @@ fn put_trailer(target: &mut [u8], at: usize, start: u32, count: u32, sx: u32, sy
         low(top),
         low(top / 256),
     );
-    put_bytes(
-        target,
-        at + 4,
-        low(count),
-        low(count / 256),
-        low(sx),
-        low(sy),
-    );
-    put_bytes(target, at + 8, tag[0], tag[1], tag[2], tag[3]);
+}
+
+// Writes F, Sx and Sy at a place.
+fn put_sizes(target: &mut [u8], at: usize, count: u32, sx: u32, sy: u32)
+    requires { ⌜ at + 4 ≤ length (now target) ⌝ }
+    requires { ⌜ (sx ≤ mostSize) × (sy ≤ mostSize) ⌝ }
+    ensures { λ _. ⌜ now (target .exit) ≡ sets (now (target .entry)) at (twoBytes count ++ (sx ∷ sy ∷ [])) ⌝ }
+{
+    put_bytes(target, at, low(count), low(count / 256), low(sx), low(sy));
+}
+
+// Writes the tag at a place.
+fn put_tag(target: &mut [u8], at: usize)
+    requires { ⌜ at + 4 ≤ length (now target) ⌝ }
+    ensures { λ _. ⌜ now (target .exit) ≡ sets (now (target .entry)) at tag ⌝ }
+{
+    let tag = b"HRTP";
+    put_bytes(target, at, tag[0], tag[1], tag[2], tag[3]);
+}
+
+// Writes the trailer at a place.
+fn put_trailer(target: &mut [u8], at: usize, start: u32, count: u32, sx: u32, sy: u32)
+    requires { ⌜ at + trailerSize ≤ length (now target) ⌝ }
+    requires { ⌜ (sx ≤ mostSize) × (sy ≤ mostSize) ⌝ }
+    ensures { λ _. ⌜ now (target .exit) ≡ sets (now (target .entry)) at (fourBytes start ++ (twoBytes count ++ (sx ∷ sy ∷ [])) ++ tag) ⌝ }
+{
+    put_start(target, at, start);
+    put_sizes(target, at + 4, count, sx, sy);
+    put_tag(target, at + 8);
 }
 
 // Writes the notes at the target's start.
@@ -100,4 +119,42 @@ fn put_notes(notes: &[u8], target: &mut [u8])
     for i in 0..count {
         target[i] = notes[i];
     }
+}
+
+// Writing from words that form a state.
+fn write_accepted(state: &[u32], notes: &[u8], target: &mut [u8]) -> Answer
+    requires { ⌜ stateNumber (now state) ≡ 0 ⌝ }
+    ensures { λ r. ⌜ outcome r (now (target .exit)) ≡ bytesOn (planBytes (now (notes .entry)) (planIn (now (state .entry)))) (now (target .entry)) ⌝ }
+{
+    let flows = state[2];
+    let count = flows as usize;
+    let start = notes.len();
+    if 65524 - 8 * count < start {
+        return Answer::Refused {
+            number: 1,
+            place: 0,
+        };
+    }
+    let at = start + 8 * count;
+    if target.len() < at + 12 {
+        return Answer::Refused {
+            number: 15,
+            place: 0,
+        };
+    }
+    put_notes(notes, target);
+    put_records(state, count, target, start);
+    put_trailer(target, at, start as u32, flows, state[0], state[1]);
+    Answer::Done((at + 12) as u32)
+}
+
+// Writing: the state's refusals, then 1, then 15; otherwise the file's bytes, and their number. Bytes past it stay.
+pub fn write(state: &[u32], notes: &[u8], target: &mut [u8]) -> Answer
+    ensures { λ r. ⌜ outcome r (now (target .exit)) ≡ writeOn (now (state .entry)) (now (notes .entry)) (now (target .entry)) ⌝ }
+{
+    let number = forms::state_number(state);
+    if number != 0 {
+        return Answer::Refused { number, place: 0 };
+    }
+    write_accepted(state, notes, target)
 }

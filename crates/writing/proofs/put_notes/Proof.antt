@@ -1,45 +1,44 @@
+-- `put_notes`: a run of stores that grows by a byte in each turn.
+use mathlib.Core.List.{[], _∷_}
+use mathlib.Core.Path.{_≡_, refl, sym, ap, _∙_}
+use Prim.Native.Nat.{ℕ, _+_, _-_, _≤_}
+use native.Mathlib.Nat.{zero-add}
+use native.Mathlib.Numerals.{add-one}
+use native.Mathlib.Omega.{arith}
+use lib.ListN.{length, getD, take, length-set}
+use lib.Seq.{sets, length-take-le, take-suc, take-length}
+use mathlib.Core.List.{List}
+use lib.ListN.{set}
+use Prim.Native.Nat.{_<_}
+use Rattle.laws.proofs.Stands.{sets-append}
 use Rattle.writing.proofs.put_notes.Statement.{statement}
 use Rattle.writing.proofs.put_notes.Tie as tie
-use Rattle.writing.proofs.put_notes.Reads as reads
-use Rattle.writing.proofs.put_notes.Lts as lts
+
+-- one byte more
+more : (notes target m : List ℕ) (i : ℕ) → i < length notes → m ≡ sets target 0 (take i notes)
+    → set m i (getD notes i 0) ≡ sets target 0 (take (i + 1) notes)
+more notes target m i h e =
+    let long = length-take-le i notes (omega arith) in
+    rw (e, add-one, take-suc notes i 0 h) (simp (zero-add, long) at (sets-append target 0 (take i notes) (getD notes i 0 ∷ [])))
 
 abbrev Inv-loop : tie.InvT-loop
-Inv-loop notes target₀ count i₀ target i = ?
+Inv-loop notes target₀ count i₀ target i =
+    (i ≤ count) × ((count ≡ length notes) × ((length target ≡ length target₀) × (target ≡ sets target₀ 0 (take i notes))))
 
 abbrev μ-loop : tie.MeasureT-loop
-μ-loop notes target₀ count i₀ target i = ?
+μ-loop notes target₀ count i₀ target i = count - i
 
--- src/lib.rt:100:5
-loop-holds : tie.Need-loop-holds Inv-loop μ-loop
-loop-holds c = ?
-
--- src/lib.rt:101:21
-shared-slice-read-target : tie.Need-shared-slice-read-target Inv-loop μ-loop
-shared-slice-read-target c = ?
-
--- src/lib.rt:101:9
-slice-write-target : tie.Need-slice-write-target Inv-loop μ-loop
-slice-write-target c = ?
-
--- src/lib.rt:100:9
-add-i : tie.Need-add-i Inv-loop μ-loop
-add-i c = ?
-
--- src/lib.rt:100:5
-loop-less : tie.Need-loop-less Inv-loop μ-loop
-loop-less c = ?
-
--- src/lib.rt:100:5
 loop-again : tie.Need-loop-again Inv-loop μ-loop
-loop-again c = ?
+loop-again c =
+    let l = c .before .before .loop in
+    let a = c .before .before .before .args in
+    (omega arith, (l .inv .1 .0, (simp length-set (l .inv .1 .1 .0), more (a .notes .now) (a .target .now) (l .target) (l .i) (omega arith) (l .inv .1 .1 .1))))
 
--- src/lib.rt:95:1
-same-length : tie.Need-same-length Inv-loop μ-loop
-same-length c = ?
-
--- src/lib.rt:95:1
 returns : tie.Need-returns Inv-loop μ-loop
-returns c = ?
+returns c =
+    let l = c .before .loop in
+    let e : l .i ≡ length (c .before .before .args .notes .now) = omega arith in
+    rw (e, take-length) at (l .inv .1 .1 .1)
 
 pub put-notes-spec : {M : Type 1} → statement M
 put-notes-spec =
@@ -47,11 +46,11 @@ put-notes-spec =
     (tie.spec
     Inv-loop
     μ-loop
-    loop-holds
-    shared-slice-read-target
-    slice-write-target
-    add-i
-    loop-less
+    (λ c. (omega arith, (refl, (refl, refl))))
+    (λ c. omega arith)
+    (λ c. omega arith)
+    (λ c. omega arith)
+    (λ c. omega arith)
     loop-again
-    same-length
+    (λ c. c .before .loop .inv .1 .1 .0)
     returns)

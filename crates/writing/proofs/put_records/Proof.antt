@@ -1,63 +1,53 @@
+-- `put_records`: a run of stores that grows by a record in each turn.
+use mathlib.Core.Path.{_≡_, refl, sym, _∙_}
+use Prim.Native.Nat.{ℕ, _+_, _-_, _*_, _≤_, _<_}
+use native.Mathlib.Omega.{arith}
+use lib.ListN.{length}
+use lib.Seq.{sets}
+use Rattle.laws.specs.Count.{joinBelow}
+use Rattle.laws.proofs.Stands.{sets-more}
+use Rattle.plan.specs.Layout.{recordSize}
+use Rattle.plan.specs.Written.{recordBytes}
+use Rattle.state.specs.Layout.{flowPlace}
+use Rattle.state.specs.Read.{countIn, flowIn}
+use Rattle.state.proofs.Forms.{state-facts}
+use Rattle.writing.proofs.Flows.{small-flow, record-length}
 use Rattle.writing.proofs.put_records.Statement.{statement}
 use Rattle.writing.proofs.put_records.Tie as tie
-use Rattle.writing.proofs.put_records.Reads as reads
-use Rattle.writing.proofs.put_records.Lts as lts
-use Rattle.state.proofs.flow_in.Reads as flow-in-reads
-use Rattle.writing.proofs.put_record.Reads as put-record-reads
 
 abbrev Inv-loop : tie.InvT-loop
-Inv-loop state count target₀ start f₀ target f = ?
+Inv-loop state count target₀ start f₀ target f =
+    (f ≤ count) × ((length target ≡ length target₀) × (target ≡ sets target₀ start (joinBelow f (λ f. recordBytes (flowIn state (flowPlace f))))))
 
 abbrev μ-loop : tie.MeasureT-loop
-μ-loop state count target₀ start f₀ target f = ?
+μ-loop state count target₀ start f₀ target f = count - f
 
--- src/lib.rt:61:5
-loop-holds : tie.Need-loop-holds Inv-loop μ-loop
-loop-holds c = ?
-
--- src/lib.rt:62:36
-mul-put-record : tie.Need-mul-put-record Inv-loop μ-loop
-mul-put-record c = ?
-
--- src/lib.rt:62:28
-add-put-record : tie.Need-add-put-record Inv-loop μ-loop
-add-put-record c = ?
-
--- src/lib.rt:62:69
-mul-flow-in : tie.Need-mul-flow-in Inv-loop μ-loop
-mul-flow-in c = ?
-
--- src/lib.rt:62:65
-add-flow-in : tie.Need-add-flow-in Inv-loop μ-loop
-add-flow-in c = ?
-
--- src/lib.rt:62:43
 flow-in-requires : tie.Need-flow-in-requires Inv-loop μ-loop
-flow-in-requires c κs = ?
+flow-in-requires c κs =
+    let start = c .before .before .before .before .before in
+    let long = state-facts _ (start .pre .0 .0) .long in
+    omega (arith, start .pre .0 .1)
 
--- src/lib.rt:62:9
 put-record-requires : tie.Need-put-record-requires Inv-loop μ-loop
-put-record-requires c κs = ?
+put-record-requires c κs =
+    let start = c .before .before .before .before .before .before in
+    let l = c .before .before .before .loop in
+    let below : l .f < countIn (start .args .state .now) = omega (arith, start .pre .0 .1) in
+    (omega arith, rw (c .flow-in .ensures) (small-flow (start .args .state .now) (start .pre .0 .0) (l .f) below))
 
--- src/lib.rt:61:9
-add-f : tie.Need-add-f Inv-loop μ-loop
-add-f c = ?
-
--- src/lib.rt:61:5
-loop-less : tie.Need-loop-less Inv-loop μ-loop
-loop-less c = ?
-
--- src/lib.rt:61:5
 loop-again : tie.Need-loop-again Inv-loop μ-loop
-loop-again c = ?
+loop-again c =
+    let l = c .before .before .before .before .before .before .loop in
+    let a = c .before .before .before .before .before .before .before .before .before .args in
+    let more =
+    sets-more recordSize (l .f) (λ f. recordBytes (flowIn (a .state .now) (flowPlace f))) (λ i. record-length _) (a .target .now) (l .target) (a .start) (l .inv .1 .1)
+    in
+    (omega arith, (c .before .before .put-record .kept .0 ∙ l .inv .1 .0, rw (c .before .before .put-record .ensures, c .before .before .before .flow-in .ensures) more))
 
--- src/lib.rt:56:1
-same-length : tie.Need-same-length Inv-loop μ-loop
-same-length c = ?
-
--- src/lib.rt:56:1
 returns : tie.Need-returns Inv-loop μ-loop
-returns c = ?
+returns c =
+    let e : c .before .loop .f ≡ c .before .before .before .before .args .count = omega arith in
+    rw e at (c .before .loop .inv .1 .1)
 
 pub put-records-spec : {M : Type 1} → statement M
 put-records-spec =
@@ -65,15 +55,15 @@ put-records-spec =
     (tie.spec
     Inv-loop
     μ-loop
-    loop-holds
-    mul-put-record
-    add-put-record
-    mul-flow-in
-    add-flow-in
+    (λ c. (omega arith, (refl, refl)))
+    (λ c. omega arith)
+    (λ c. omega arith)
+    (λ c. omega (arith, c .before .before .before .before .before .pre .0 .1))
+    (λ c. omega (arith, c .before .before .before .before .before .pre .0 .1))
     flow-in-requires
     put-record-requires
-    add-f
-    loop-less
+    (λ c. omega arith)
+    (λ c. omega arith)
     loop-again
-    same-length
+    (λ c. c .before .loop .inv .1 .0)
     returns)
