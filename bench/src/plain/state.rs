@@ -81,7 +81,7 @@ fn in_place(state: &State, row: u32, column: u32, north: bool, register: &Regist
     let [xs, ys, xd, yd, ..] = *flow;
     let e = state.clock.wrapping_sub(entry);
     let (r, dx, dy) = (offset(ys, row, sy), offset(xs, xd, sx), offset(ys, yd, sy));
-    if serial == 0 || serial > flow[8] || entry >= state.clock || r > dy || d > 16 {
+    if serial == 0 || serial > flow[8] || entry >= state.clock || r > dy {
         return false;
     }
     if north {
