@@ -19,6 +19,10 @@ pub fn boundaries(host: &impl Engine, tally: &mut Tally, random: &mut Random) {
             let mut state = small.clone();
             state[at] = value;
             three_calls(host, tally, random, &state);
+            if at < HEADER {
+                // What the first eight words say comes before the length of the rest.
+                calls_with_past(host, tally, random, &state[..HEADER], 0);
+            }
         }
     }
     lent_lengths(host, tally, random, &small);
