@@ -10,6 +10,7 @@ pub fn at_boundaries() -> Vec<Vec<u8>> {
         files.extend(changed(&file, &[0, 17]));
     }
     files.extend(lengths());
+    files.extend([1, 2, 3].map(wrapped_start));
     files.extend([1, 2].map(|burst| last_window(burst).file(&[])));
     files
 }
@@ -41,6 +42,16 @@ fn changed(file: &[u8], values: &[u8]) -> Vec<Vec<u8>> {
         }
     }
     files
+}
+
+/// So many records are missing in front, and the start is as far below 2^32: no match, since
+/// nothing wraps.
+fn wrapped_start(missing: usize) -> Vec<u8> {
+    let mut file = base().split_off(5 + 8 * missing);
+    let trailer = file.len() - 12;
+    let start = (8 * missing as u32).wrapping_neg();
+    file[trailer..trailer + 4].copy_from_slice(&start.to_le_bytes());
+    file
 }
 
 /// Lengths from 0, the longest file and one byte more, and the counts 1, 256 and 257.
