@@ -1,8 +1,9 @@
-// The C interface, declared in include/hrt.h: thin, over the calls of plan and bounds.
+// The C interface, declared in include/hrt.h: thin, over the calls of plan, bounds, reset, writing and cycle.
 use plan::Answer;
 ghost use mathlib.Core.Path.{_≡_};
 ghost use Rattle.bounds.specs.Calls.{windowAnswer, flightAnswer, NumberMost};
-ghost use Rattle.host.specs.Words.{windowWord, answerWord, notesAnswer};
+ghost use Rattle.host.specs.Words.{windowWord, answerWord, notesAnswer, said, saidOf};
+ghost use Rattle.state.specs.Calls.{resetOn, writeOn};
 
 // The window call's answer as a number.
 fn window_word(a: Answer) -> u32
@@ -50,4 +51,20 @@ pub extern "C" fn hrt_notes(plan: &[u8]) -> u64
         Answer::Refused { number, place } => answer_word(Answer::Refused { number, place }),
         Answer::Done(_) => plan::notes(plan).len() as u64,
     }
+}
+
+// A state from a plan file.
+#[no_mangle]
+pub extern "C" fn hrt_reset(plan: &[u8], state: &mut [u32]) -> u64
+    ensures { λ r. ⌜ said r (now (state .exit)) ≡ saidOf (resetOn (now (plan .entry)) (now (state .entry))) ⌝ }
+{
+    answer_word(reset::reset(plan, state))
+}
+
+// The plan file of a state with lent notes.
+#[no_mangle]
+pub extern "C" fn hrt_write(state: &[u32], notes: &[u8], target: &mut [u8]) -> u64
+    ensures { λ r. ⌜ said r (now (target .exit)) ≡ saidOf (writeOn (now (state .entry)) (now (notes .entry)) (now (target .entry))) ⌝ }
+{
+    answer_word(writing::write(state, notes, target))
 }
