@@ -6,7 +6,7 @@ use Rattle.host.proofs.hrt_reset.Statement.{statement}
 use Rattle.host.proofs.hrt_reset.Tie as tie
 
 returns : tie.Need-returns
-returns c = rw (c .answer-word .ensures) (ap saidOf (c .before .before .reset .ensures))
+returns c = rw (c .answer-word .ensures) (ap saidOf (c .before .before .before .reset .ensures))
 
 pub hrt-reset-spec : {M : Type 1} → statement M
 hrt-reset-spec = tie.close (tie.spec (λ c κs. search needs) (λ c κs. search needs) (λ c. search needs) returns)
