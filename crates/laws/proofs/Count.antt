@@ -58,9 +58,12 @@ module _ {A : Type 0} where
   none-count t [] e = refl
   none-count t (z ∷ l) e = elim (test (t z)) [ inl h ↦ absurd (false≢true (sym e ∙ rw h)) | inr h ↦ rw (h, none-count t l (rw h at e)) ]
 
+  pub count-any : (t : A → Bool) (l : List A) → 1 ≤ count t l → any t l ≡ true
+  count-any t l h = elim (test (any t l)) [ inl e ↦ e | inr e ↦ absurd (omega (arith, none-count t l e)) ]
+
   -- a member that passes, where some are counted
   pub count-find : (t : A → Bool) (l : List A) → 1 ≤ count t l → (x : A) × Mem x l × (t x ≡ true)
-  count-find t l h = any-true t l (elim (test (any t l)) [ inl e ↦ e | inr e ↦ absurd (omega (arith, none-count t l e)) ])
+  count-find t l h = any-true t l (count-any t l h)
 
   pub count-append : (t : A → Bool) (l m : List A) → count t (l ++ m) ≡ count t l + count t m
   count-append t [] m = omega arith
