@@ -41,10 +41,7 @@ module _ {A : Type 0} where
       let e : i + suc (length a) ≡ suc i + length a = omega arith in
       rw e (sets-append (set l i x) (suc i) a b)
 
-  -- a loop that writes parts of one length, one behind the other: no turn, one turn more
-  pub sets-none : (l : List A) (base : ℕ) (f : ℕ → List A) → l ≡ sets l base (joinBelow 0 f)
-  sets-none l base f = refl
-
+  -- a loop that writes parts of one length, one behind the other: one turn more
   pub sets-more : (c n : ℕ) (f : ℕ → List A) (long : (i : ℕ) → length (f i) ≡ c) (l m : List A) (base : ℕ)
       → m ≡ sets l base (joinBelow n f) → sets m (base + c * n) (f n) ≡ sets l base (joinBelow (n + 1) f)
   sets-more c n f long l m base e =

@@ -1,4 +1,4 @@
-// Reset, from a plan file to a state, and writing a state's plan back as a file. Rests on plan, state and forms.
+// Reset: from a plan file to a state. Rests on plan and state.
 use bucket::Bucket;
 use flow::Flow;
 use plan::Answer;

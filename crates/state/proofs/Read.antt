@@ -48,18 +48,18 @@ module _ (w : List ℕ) (at : ℕ) where
       let less : flow + 1 - 1 ≡ flow = omega arith in
       rw (first, s .same 1 (omega arith), s .same 2 (omega arith), s .same 3 (omega arith), ne-eqb (flow + 1) 0 (λ e. omega arith), less)
 
--- both registers of a router
+-- W and N of a cell
 module _ (w : List ℕ) (at : ℕ) (c : Cell) (s : Stands 0 w at (cellWords c)) where
-  pub west-stands : Stands 0 w at (registerWords (c .west))
-  west-stands = rw add-zero at (stands-in 0 w (cellWords c) (registerWords (c .west)) at 0 s (stands-first 0 (registerWords (c .west)) (registerWords (c .north))))
+  pub west-part : Stands 0 w at (registerWords (c .west))
+  west-part = rw add-zero at (stands-in 0 w (cellWords c) (registerWords (c .west)) at 0 s (stands-first 0 (registerWords (c .west)) (registerWords (c .north))))
 
-  pub north-stands : Stands 0 w (at + registerSize) (registerWords (c .north))
-  north-stands =
+  pub north-part : Stands 0 w (at + registerSize) (registerWords (c .north))
+  north-part =
       stands-in 0 w (cellWords c) (registerWords (c .north)) at registerSize s
       (rw (length-register (c .west)) at (stands-after 0 (registerWords (c .west)) (registerWords (c .north))))
 
   pub cell-read : cellIn w at ≡ c
-  cell-read = λ j. record { west = register-read w at (c .west) west-stands j; north = register-read w (at + registerSize) (c .north) north-stands j }
+  cell-read = λ j. record { west = register-read w at (c .west) west-part j; north = register-read w (at + registerSize) (c .north) north-part j }
 
 -- a tally for each flow, a cell for each router
 pub record Sized (s : State) : Type 0 where
@@ -71,7 +71,7 @@ module _ (s : State) (w : List ℕ) (h : Stands 0 w 0 (stateWords s)) where
   pub part : (at : ℕ) (b : List ℕ) → Stands 0 (stateWords s) at b → Stands 0 w at b
   part at b p = rw zero-add at (stands-in 0 w (stateWords s) b 0 at h p)
 
-  head : Stands 0 w 0 (headerWords (s .plan) (s .clock))
+  pub head : Stands 0 w 0 (headerWords (s .plan) (s .clock))
   head = part 0 _ (header-stands s)
 
   pub sx-read : sxIn w ≡ s .plan .sx
