@@ -1,2 +1,1 @@
--- The laws behind the check of a state's words.
-pub mod InPlace
+-- The check of a state's words rests on the laws of crate state.

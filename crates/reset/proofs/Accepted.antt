@@ -79,7 +79,8 @@ accepted file memory e =
     record { value = parts .0; file-done = parts .1; long = done-long (planOf file) memory (parts .2) }
 
 module _ (file memory : List ℕ) (bytes : Bytes file) (e : (resetOn file memory) .answer ≡ Done 0) where
-  leaves : (resetOn file memory) .memory ≡ over (stateWords (resetState (planOf file))) memory
+  -- the reset state's words, and the rest as lent
+  pub leaves : (resetOn file memory) .memory ≡ over (stateWords (resetState (planOf file))) memory
   unfolding resetOn unlessRefused
   leaves =
       let a = accepted file memory e in

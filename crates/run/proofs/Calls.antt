@@ -34,7 +34,7 @@ module _ (p : Plan) (b : Book) (k : Kept p b) (words : List ℕ) where
       offerOn w f ≡ outcome (answerOf (now .reply)) (image p (now .book) words)
   unfolding offerOn unless feed refusal
   offer-on f =
-      rw (number p b words k, count-is p b words k, view p b words)
+      rw (number p b words k, count-is p b words, view p b words)
       (elim (test (leb (length (p .flows)) f)) [
         | inl out ↦ rw out
         | inr in-plan ↦
@@ -50,7 +50,7 @@ module _ (p : Plan) (b : Book) (k : Kept p b) (words : List ℕ) where
       stepOn w delivery ≡ stepOutcome (answerOf (now .reply)) (image p (now .book) words) (over (wordsOf (now .delivered)) delivery)
   unfolding stepOn unlessStep stepNumber feed refusal
   step-on delivery =
-      rw (number p b words k, clock-is p b words k, plan-is p b words, view p b words)
+      rw (number p b words k, clock-is p b words, plan-is p b words, view p b words)
       (elim (test (ltb (length delivery) (roomFor p))) [
         | inl little ↦ rw little
         | inr room ↦ elim (test (eqb (b .clock) lastClock)) [

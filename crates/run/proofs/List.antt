@@ -23,13 +23,14 @@ use Rattle.state.specs.Words.{stateWords}
 use Rattle.state.specs.Forms.{stateNumber}
 use Rattle.state.specs.Outcome.{Outcome, outcome, over}
 use Rattle.state.specs.Calls.{planSize, resetOn}
+use Rattle.reset.proofs.Accepted.{accepted, leaves}
 use Rattle.cycle.specs.Calls.{StepOutcome}
 use Rattle.run.specs.List.{Call, offer, step, write, reset, Entry, whole, first, result, after, MayCome, IsList, memoryAfter, outcomes, wordCount, deliveredBy, deliveredWords, fed, answerOf, written, tooLittle, expected, bookRun, EveryList}
 use Rattle.run.proofs.Delivery.{words-append}
 use Rattle.run.proofs.Offer.{start-follows}
 use Rattle.run.proofs.Memory.{image, number, short}
 use Rattle.run.proofs.Calls.{offer-on, step-on, write-on, short-offer, short-step, short-write}
-use Rattle.run.proofs.Reset.{reset-accepted, reset-refused}
+use Rattle.run.proofs.Reset.{reset-refused}
 
 -- five words for each delivery
 words-length : (ds : List Delivery) → length (wordsOf ds) ≡ 5 * length ds
@@ -166,11 +167,11 @@ module _ (p : Plan) (words : List ℕ) where
 
 -- for every plan file that reset accepts, every state memory of at least its size and every list of calls
 pub every-list : EveryList
-every-list file words bytes accepted es l =
-    let a = reset-accepted file words 0 accepted in
+every-list file words bytes done es l =
+    let a = accepted file words done in
     let p = planOf file in
-    let ok = plan-ok file (a .value) (a .plan) bytes in
-    let begun : (resetOn file words) .memory ≡ image p (start p) words = a .memory ∙ ap (λ s. over (stateWords s) words) (sym (start-follows p)) in
+    let ok = plan-ok file (a .value) (a .file-done) bytes in
+    let begun : (resetOn file words) .memory ≡ image p (start p) words = leaves file words bytes done ∙ ap (λ s. over (stateWords s) words) (sym (start-follows p)) in
     let g = follow p words (a .long) es (start p) (kept-start p ok) (subst (λ m. IsList p m es) begun l) in
     record {
       answered = ap (λ m. outcomes m es) begun ∙ g .answered;

@@ -3,10 +3,10 @@ use borrow.Author.Tests.{le-leb, lt-leb}
 use Prim.Native.Nat.{_-_, _*_, _≤_, _<_}
 use native.Mathlib.Omega.{arith}
 use Rattle.flow.specs.Plan.{mostSize}
-use Rattle.forms.proofs.InPlace.{across-below, laps-most, lap-most}
+use Rattle.place.proofs.InPlace.{across-below, laps-most, lap-most}
 use borrow.Author.Needs.{needs}
-use Rattle.forms.proofs.in_later_row.Statement.{statement}
-use Rattle.forms.proofs.in_later_row.Tie as tie
+use Rattle.place.proofs.in_later_row.Statement.{statement}
+use Rattle.place.proofs.in_later_row.Tie as tie
 
 returns : tie.Need-returns
 returns c = rw (← (c .before .offset-y .ensures), lt-leb _ _ (c .if1 .taken))

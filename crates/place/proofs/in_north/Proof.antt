@@ -3,10 +3,10 @@ use borrow.Author.Tests.{le-leb, lt-leb, eq-eqb, ne-eqb}
 use Prim.Native.Nat.{_*_, _≤_, _<_}
 use native.Mathlib.Omega.{arith}
 use Rattle.flow.specs.Plan.{mostSize}
-use Rattle.forms.proofs.InPlace.{across-below, laps-most}
+use Rattle.place.proofs.InPlace.{across-below, laps-most}
 use borrow.Author.Needs.{needs}
-use Rattle.forms.proofs.in_north.Statement.{statement}
-use Rattle.forms.proofs.in_north.Tie as tie
+use Rattle.place.proofs.in_north.Statement.{statement}
+use Rattle.place.proofs.in_north.Tie as tie
 
 returns : tie.Need-returns
 returns c = rw (ne-eqb _ _ (c .if1 .taken))

@@ -5,10 +5,10 @@ use Rattle.torus.proofs.Ring.{offset-below}
 use Rattle.flow.specs.Plan.{mostSize}
 use Rattle.book.specs.InPlace.{inPlace}
 use borrow.Author.Tests.{le-leb, eq-eqb, ne-eqb}
-use Rattle.forms.proofs.InPlace.{too-early}
+use Rattle.place.proofs.InPlace.{too-early}
 use borrow.Author.Needs.{needs}
-use Rattle.forms.proofs.in_place.Statement.{statement}
-use Rattle.forms.proofs.in_place.Tie as tie
+use Rattle.place.proofs.in_place.Statement.{statement}
+use Rattle.place.proofs.in_place.Tie as tie
 
 returns : tie.Need-returns
 returns c = too-early _ _ _ _ _ _ (c .if1 .taken)

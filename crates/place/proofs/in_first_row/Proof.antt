@@ -1,8 +1,8 @@
 -- `in_first_row`: the definition's own tests, in its order.
 use borrow.Author.Tests.{le-leb, lt-leb, eq-eqb, ne-eqb}
 use borrow.Author.Needs.{needs}
-use Rattle.forms.proofs.in_first_row.Statement.{statement}
-use Rattle.forms.proofs.in_first_row.Tie as tie
+use Rattle.place.proofs.in_first_row.Statement.{statement}
+use Rattle.place.proofs.in_first_row.Tie as tie
 
 returns : tie.Need-returns
 returns c = rw (← (c .before .offset .ensures), lt-leb _ _ (c .if1 .taken))
