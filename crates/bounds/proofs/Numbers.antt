@@ -2,19 +2,19 @@
 use mathlib.Core.Bool.{Bool, true, false, cond, not, _&&_, _||_}
 use mathlib.Core.List.{List}
 use mathlib.Core.Logic.{inl, inr}
-use Prim.Native.Nat.{ℕ, zero, suc, _+_, _-_, _*_, _≤_, _<_}
+use Prim.Native.Nat.{ℕ, zero, suc, _+_, _-_, _*_, _≤_}
 use native.Mathlib.Nat.{le-trans}
 use native.Mathlib.Omega.{arith}
-use lib.Dec.{ltb, leb, eqb}
+use lib.Dec.{ltb, eqb}
 use lib.ListN.{length}
 use Rattle.laws.proofs.Cases.{test}
 use Rattle.flow.specs.declared.Flow.{Flow}
 use Rattle.flow.specs.Plan.{onTorus, mostFlows}
 use Rattle.plan.specs.declared.Answer.{Answer}
-use Rattle.plan.specs.declared.Answer.the-variants.{Done, Refused}
+use Rattle.plan.specs.declared.Answer.the-variants.{Refused}
 use Rattle.plan.specs.declared.Trailer.{Trailer}
 use Rattle.plan.specs.Refusals as Refusals
-use Rattle.plan.specs.Refusals.{answerOf, orElse, sizeOk, headerNumber, trailerNumber, recordNumber, flowNumber, firstRefused, recordsAnswer, planAnswer}
+use Rattle.plan.specs.Refusals.{answerOf, orElse, sizeOk, headerNumber, trailerNumber, recordNumber, flowNumber, firstRefused, planAnswer}
 use Rattle.plan.specs.Layout.{mostFile, recordSize, trailerSize, tagged, trailerOf, planOf}
 use Rattle.window.specs.declared.Found.{Found}
 use Rattle.window.specs.declared.Found.the-variants.{At, Nothing}

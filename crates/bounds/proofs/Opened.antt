@@ -1,13 +1,13 @@
 -- What an accepted file with its trailer has: where its records stand, and its plan. Rests on the laws of plan files.
 use mathlib.Core.List.{List}
-use mathlib.Core.Path.{_≡_, refl, sym, ap, _∙_}
+use mathlib.Core.Path.{_≡_, sym}
 use Prim.Native.Nat.{ℕ, _+_, _-_, _*_, _≤_, _<_}
 use native.Mathlib.Omega.{arith}
-use lib.ListN.{length, getD}
+use lib.ListN.{length}
 use Rattle.flow.specs.Plan.{PlanOk, flowAt}
 use Rattle.plan.specs.declared.Trailer.{Trailer}
 use Rattle.plan.specs.Layout as Layout
-use Rattle.plan.specs.Layout.{trailerOf, flowFrom, planOf, recordSize, trailerSize}
+use Rattle.plan.specs.Layout.{flowFrom, planOf, recordSize, trailerSize}
 use Rattle.plan.proofs.Accepted.{Trailed, done-trailed}
 use Rattle.plan.proofs.Ranges.{Bytes, plan-flow, plan-count, plan-ok}
 use Rattle.window.specs.Conflict.{Pair}

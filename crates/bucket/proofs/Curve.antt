@@ -1,6 +1,6 @@
 -- Laws of the curve: it never falls with the span, never rises with the period, and is at most burst and span together.
 -- Rests on specs/Curve; windows use these laws and never open it.
-use Prim.Native.Nat.{ℕ, zero, suc, _+_, _*_, _/_, _≤_, _<_}
+use Prim.Native.Nat.{ℕ, zero, suc, _+_, _/_, _≤_}
 use native.Mathlib.Nat.{div-zero, div-le-self, div-mul-le-self, le-div-iff-mul-le, mul-le-mul-left, le-trans}
 use native.Mathlib.Omega.{arith}
 use Rattle.bucket.specs.Curve.{curve}

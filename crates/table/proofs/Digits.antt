@@ -1,15 +1,17 @@
 -- Laws of decimal digits: a number below 10 is its digit, any other has the digits of its tenth and one more. Rests on specs/Decimal.
-use mathlib.Core.List.{List, [], _∷_, _++_}
+use mathlib.Core.List.{[], _∷_, _++_}
 use mathlib.Core.Logic.{inl, inr}
-use mathlib.Core.Path.{_≡_, refl, sym, ap, _∙_}
-use Prim.Native.Nat.{ℕ, zero, suc, _+_, _*_, _/_, _%_, _^_, _≤_, _<_}
+use mathlib.Core.Path.{_≡_}
+use Prim.Native.Nat.{ℕ, zero, suc, _+_, _/_, _%_, _^_, _≤_, _<_}
 use native.Mathlib.Numerals.{add-one}
 use native.Mathlib.Omega.{arith}
 use borrow.Author.Tests.{lt-ltb, le-ltb, ltb-true, ltb-false}
+use mir.Syntax.{w32}
+use mir.Val.{Fits}
 use lib.Dec.{ltb}
 use lib.ListN.{length, length-append}
 use Rattle.laws.proofs.Cases.{test}
-use Rattle.table.specs.Decimal.{digit, digitsIn, decimal}
+use Rattle.table.specs.Decimal.{digit, digitsIn, decimal, mostDigits}
 
 -- enough places hold all digits
 places : (j k n : ℕ) → n < j → n < k → digitsIn j n ≡ digitsIn k n
@@ -43,3 +45,6 @@ decimal-most (suc k) n h =
           let higher = decimal-most k (n / 10) (omega arith) in
           rw (decimal-more n ten, length-append) (omega arith)
     ]
+
+pub word-digits : (n : ℕ) → Fits w32 n → length (decimal n) ≤ mostDigits
+word-digits n h = decimal-most 9 n (omega (arith, h .fits))

@@ -59,6 +59,10 @@ unfoldable pub lines : Plan → ℕ → List ℕ
 lines p zero = []
 lines p (suc n) = lines p n ++ line p n
 
+-- no field is longer: a space and ten digits
+abbrev pub mostField : ℕ
+mostField = 11
+
 -- no line is longer
 abbrev pub mostLine : ℕ
 mostLine = 64

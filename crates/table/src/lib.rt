@@ -14,8 +14,8 @@ ghost use Rattle.plan.specs.Layout.{planOf};
 ghost use Rattle.window.specs.declared.Found.the-variants.{At};
 ghost use Rattle.window.specs.Window.{mostWindow};
 ghost use Rattle.bounds.specs.Calls.{Opened};
-ghost use Rattle.table.specs.Decimal.{decimal};
-ghost use Rattle.table.specs.Table.{field, portField, foundField, waitOf, row, line, lines, header, refusedLine, tableOf, mostLine, mostTable};
+ghost use Rattle.table.specs.Decimal.{decimal, mostDigits};
+ghost use Rattle.table.specs.Table.{field, portField, foundField, waitOf, row, line, lines, header, refusedLine, tableOf, mostField, mostLine, mostTable};
 
 fn put_byte(out: &mut [u8], at: usize, b: u8) -> usize
     requires { ⌜ at < length (now out) ⌝ }
@@ -39,6 +39,7 @@ fn put_text(out: &mut [u8], at: usize, text: &[u8]) -> usize
 fn put_decimal(out: &mut [u8], at: usize, n: u32) -> usize
     requires { ⌜ at + length (decimal n) ≤ length (now out) ⌝ }
     ensures { λ r. ⌜ Wrote (now (out .entry)) at (decimal n) r (now (out .exit)) ⌝ }
+    ensures { λ r. ⌜ r ≤ at + mostDigits ⌝ }
 {
     if n < 10 {
         return put_byte(out, at, 48 + (n as u8));
@@ -48,16 +49,18 @@ fn put_decimal(out: &mut [u8], at: usize, n: u32) -> usize
 }
 
 fn put_field(out: &mut [u8], at: usize, n: u32) -> usize
-    requires { ⌜ at + length (field n) ≤ length (now out) ⌝ }
+    requires { ⌜ at + mostField ≤ length (now out) ⌝ }
     ensures { λ r. ⌜ Wrote (now (out .entry)) at (field n) r (now (out .exit)) ⌝ }
+    ensures { λ r. ⌜ r ≤ at + mostField ⌝ }
 {
     let next = put_byte(out, at, b' ');
     put_decimal(out, next, n)
 }
 
 fn put_found(out: &mut [u8], at: usize, found: Found) -> usize
-    requires { ⌜ at + length (foundField found) ≤ length (now out) ⌝ }
+    requires { ⌜ at + mostField ≤ length (now out) ⌝ }
     ensures { λ r. ⌜ Wrote (now (out .entry)) at (foundField found) r (now (out .exit)) ⌝ }
+    ensures { λ r. ⌜ r ≤ at + mostField ⌝ }
 {
     match found {
         Found::At(n) => put_field(out, at, n),
@@ -68,6 +71,7 @@ fn put_found(out: &mut [u8], at: usize, found: Found) -> usize
 fn put_port(out: &mut [u8], at: usize, port: Port) -> usize
     requires { ⌜ at + 2 ≤ length (now out) ⌝ }
     ensures { λ r. ⌜ Wrote (now (out .entry)) at (portField port) r (now (out .exit)) ⌝ }
+    ensures { λ r. ⌜ r ≤ at + 2 ⌝ }
 {
     match port {
         Port::East => put_text(out, at, b" E"),
@@ -84,8 +88,9 @@ fn put_row(
     flight: u32,
     wait: Found,
 ) -> usize
-    requires { ⌜ at + length (row f port window flight wait) ≤ length (now out) ⌝ }
+    requires { ⌜ at + mostLine ≤ length (now out) ⌝ }
     ensures { λ r. ⌜ Wrote (now (out .entry)) at (row f port window flight wait) r (now (out .exit)) ⌝ }
+    ensures { λ r. ⌜ r ≤ at + mostLine ⌝ }
 {
     let a = put_decimal(out, at, f);
     let b = put_port(out, a, port);
@@ -110,6 +115,7 @@ fn wait_of(flow: Flow, window: Found) -> Found
 fn put_line(file: &[u8], t: Trailer, f: u32, out: &mut [u8], at: usize) -> usize
     requires { ⌜ (Opened (now file) t) × ((f < t .count) × (at + mostLine ≤ length (now out))) ⌝ }
     ensures { λ r. ⌜ Wrote (now (out .entry)) at (line (planOf (now (file .entry))) f) r (now (out .exit)) ⌝ }
+    ensures { λ r. ⌜ r ≤ at + mostLine ⌝ }
 {
     let flow = bounds::flow_of(file, t, f);
     let window = bounds::window_found(file, t, f);
@@ -120,8 +126,9 @@ fn put_line(file: &[u8], t: Trailer, f: u32, out: &mut [u8], at: usize) -> usize
 }
 
 fn put_refused(out: &mut [u8], at: usize, number: u32, place: u32) -> usize
-    requires { ⌜ at + length (refusedLine number place) ≤ length (now out) ⌝ }
+    requires { ⌜ at + mostLine ≤ length (now out) ⌝ }
     ensures { λ r. ⌜ Wrote (now (out .entry)) at (refusedLine number place) r (now (out .exit)) ⌝ }
+    ensures { λ r. ⌜ r ≤ at + mostLine ⌝ }
 {
     let a = put_text(out, at, b"refused");
     let b = put_field(out, a, number);
@@ -133,6 +140,7 @@ fn put_refused(out: &mut [u8], at: usize, number: u32, place: u32) -> usize
 fn put_lines(file: &[u8], t: Trailer, out: &mut [u8], at: usize) -> usize
     requires { ⌜ (Opened (now file) t) × (at + mostLine * t .count ≤ length (now out)) ⌝ }
     ensures { λ r. ⌜ Wrote (now (out .entry)) at (lines (planOf (now (file .entry))) (t .count)) r (now (out .exit)) ⌝ }
+    ensures { λ r. ⌜ r ≤ at + mostLine * t .count ⌝ }
 {
     let count = t.count;
     let mut next = at;

@@ -1,10 +1,10 @@
 -- Flight bounds are small. Rests on specs/Flight and the ring's laws.
-use Prim.Native.Nat.{ℕ, _+_, _*_, _≤_, _<_}
+use Prim.Native.Nat.{ℕ, _≤_}
 use native.Mathlib.Nat.{le-trans, mul-le-mul-left, mul-le-mul-right}
 use native.Mathlib.Omega.{arith}
 use Rattle.torus.proofs.Ring.{offset-below}
 use Rattle.flow.specs.declared.Flow.{Flow}
-use Rattle.flow.specs.Offsets.{ΔX, ΔY}
+use Rattle.flow.specs.Offsets.{ΔY}
 use Rattle.flow.specs.Plan.{FlowOk, mostSize}
 use Rattle.window.specs.Flight.{flightBound, mostFlight}
 

@@ -4,17 +4,15 @@ use mathlib.Core.Path.{_≡_, refl, sym, ap, fun-ext, _∙_}
 use Prim.Native.Nat.{ℕ, _+_, _*_, _≤_, _<_}
 use native.Mathlib.Omega.{arith}
 use borrow.Author.Tests.{eq-eqb, ne-eqb}
-use lib.Dec.{eqb}
-use lib.ListN.{length, getD}
+use lib.ListN.{length}
 use Rattle.laws.specs.Bounded.{sumBelow}
 use Rattle.laws.proofs.Sum.{sum-none, sum-more}
-use Rattle.flow.specs.declared.Flow.{Flow}
 use Rattle.flow.specs.Plan.{Plan, PlanOk, flowAt}
 use Rattle.window.specs.declared.Conflict.{Conflict}
 use Rattle.window.specs.declared.Conflict.the-variants.{Free, Spread}
-use Rattle.window.specs.Conflict.{Pair, conflict}
+use Rattle.window.specs.Conflict.{conflict}
 use Rattle.window.specs.Window.{share, shareOf, interference, leastFrom, mostWindow, windowOf}
-use Rattle.window.specs.Rivals.{rivalWords, mostRivalWords, demandOf, Rivals, RivalsAmong, Kept, keptWith}
+use Rattle.window.specs.Rivals.{rivalWords, mostRivalWords, demandOf, RivalsAmong, Kept, keptWith}
 use Rattle.window.proofs.Spread.{SpreadMost, none, some, spread-most}
 use Rattle.window.proofs.Rivals.{demand-none, with-demand, with-ok}
 

@@ -1,21 +1,17 @@
 -- Laws of the rivals kept for a search: their demand never falls, is small, and grows by the share of each flow that is added.
 use mathlib.Core.List.{List}
 use mathlib.Core.Logic.{_≢_}
-use mathlib.Core.Path.{_≡_, refl, sym, ap, _∙_}
+use mathlib.Core.Path.{_≡_, _∙_}
 use Prim.Native.Nat.{ℕ, _+_, _-_, _*_, _≤_, _<_}
-use native.Mathlib.Nat.{le-trans}
 use native.Mathlib.Decide.{decLe}
 use native.Mathlib.Omega.{arith}
 use lib.ListN.{length, getD, set, length-set}
 use lib.Seq.{getD-set-same, getD-set-other}
-use Rattle.laws.specs.Bounded.{sumBelow}
 use Rattle.laws.proofs.Sum.{sum-none, sum-more, sum-same, sum-mono, sum-most}
 use Rattle.flow.specs.declared.Flow.{Flow}
 use Rattle.flow.specs.Plan.{mostFlows, mostBurst}
-use Rattle.bucket.specs.Curve.{curve}
 use Rattle.bucket.proofs.Curve.{curve-span, curve-most}
-use Rattle.window.specs.declared.Conflict.{Conflict}
-use Rattle.window.specs.declared.Conflict.the-variants.{Free, Spread}
+use Rattle.window.specs.declared.Conflict.the-variants.{Spread}
 use Rattle.window.specs.Window.{share, mostWindow}
 use Rattle.window.specs.Rivals.{rivalWords, rivalShare, demandOf, mostSpread, RivalOk, Rivals, keptWith}
 

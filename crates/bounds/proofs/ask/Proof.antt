@@ -2,11 +2,8 @@
 use borrow.Author.Needs.{needs}
 use borrow.Author.Tests.{lt-ltb, le-ltb}
 use mathlib.Core.Path.{_≡_, sym, _∙_}
-use Prim.Native.Nat.{ℕ}
 use lib.ListN.{length}
 use Rattle.plan.specs.Layout.{planOf}
-use Rattle.plan.specs.declared.Answer.the-variants.{Done}
-use Rattle.plan.specs.Refusals.{planAnswer}
 use Rattle.plan.proofs.Ranges.{plan-count}
 use Rattle.bounds.specs.Calls.{Accepted, asked}
 use Rattle.bounds.proofs.Opened.{accepted-long}

@@ -1,6 +1,6 @@
 -- `flight`: the refusal, or the flight bound of a known flow.
 use borrow.Author.Needs.{needs}
-use mathlib.Core.Path.{_≡_, sym, ap, _∙_}
+use mathlib.Core.Path.{sym, ap, _∙_}
 use Rattle.plan.specs.declared.Answer.the-variants.{Done}
 use Rattle.bounds.specs.Calls.{flightAnswer}
 use Rattle.bounds.proofs.Asked.{Known, asked-refused, asked-done, known-opened}

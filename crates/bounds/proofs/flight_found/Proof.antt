@@ -1,8 +1,6 @@
 -- `flight_found`: the flight bound of the plan's flow.
 use borrow.Author.Needs.{needs}
-use mathlib.Core.Path.{_≡_, sym, _∙_}
 use native.Mathlib.Omega.{arith}
-use Rattle.plan.proofs.Ranges.{Bytes}
 use Rattle.bounds.proofs.Opened.{opened-pair, opened-sx, opened-sy}
 use Rattle.bounds.proofs.flight_found.Statement.{statement}
 use Rattle.bounds.proofs.flight_found.Tie as tie

@@ -1,7 +1,6 @@
 -- `flow_of`: record f of an accepted file is flow f of its plan.
 use borrow.Author.Needs.{needs}
 use mathlib.Core.Path.{_∙_}
-use native.Mathlib.Omega.{arith}
 use Rattle.bounds.proofs.Opened.{opened-long, opened-flow}
 use Rattle.bounds.proofs.flow_of.Statement.{statement}
 use Rattle.bounds.proofs.flow_of.Tie as tie

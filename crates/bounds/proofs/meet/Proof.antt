@@ -1,7 +1,5 @@
 -- `meet`: f itself is no rival; another flow is kept with its conflict, by the laws of gathering.
 use borrow.Author.Needs.{needs}
-use mathlib.Core.Path.{_≡_, sym, ap, _∙_}
-use Prim.Native.Nat.{ℕ, _+_, _<_}
 use native.Mathlib.Omega.{arith}
 use Rattle.plan.proofs.Ranges.{Bytes}
 use Rattle.window.specs.Rivals.{kept}

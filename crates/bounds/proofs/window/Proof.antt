@@ -1,6 +1,6 @@
 -- `window`: the refusal, or the window found for a known flow, or 14.
 use borrow.Author.Needs.{needs}
-use mathlib.Core.Path.{_≡_, sym, ap, _∙_}
+use mathlib.Core.Path.{sym, _∙_}
 use Rattle.bounds.specs.Calls.{windowAnswer}
 use Rattle.bounds.proofs.Asked.{Known, asked-refused, asked-done, known-opened}
 use Rattle.bounds.proofs.Opened.{accepted-long}

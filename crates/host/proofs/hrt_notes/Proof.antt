@@ -1,8 +1,8 @@
 -- `hrt_notes`: the plan's refusal, or the length of the notes.
 use borrow.Author.Needs.{needs}
-use mathlib.Core.Path.{ap, _∙_}
+use mathlib.Core.Path.{ap}
 use lib.ListN.{length}
-use Rattle.host.specs.Words.{answerWord, notesAnswer}
+use Rattle.host.specs.Words.{notesAnswer}
 use Rattle.host.proofs.hrt_notes.Statement.{statement}
 use Rattle.host.proofs.hrt_notes.Tie as tie
 

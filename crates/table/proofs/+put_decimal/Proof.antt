@@ -1,5 +1,5 @@
 -- `put_decimal`: the digits of the tenth, then the last digit. The measure is the number.
-use mathlib.Core.List.{[], _∷_, _++_}
+use mathlib.Core.List.{[], _∷_}
 use mathlib.Core.Path.{_≡_, ap, _∙_}
 use Prim.Native.Nat.{ℕ, _+_, _/_, _%_, _<_, _≤_}
 use native.Mathlib.Omega.{arith}
@@ -9,7 +9,7 @@ use borrow.Fn.PlainCycle.{Measures, is, falls, and}
 use lib.ListN.{length, length-append}
 use Rattle.laws.proofs.Written.{wrote-then, wrote-length}
 use Rattle.table.specs.Decimal.{digit, decimal}
-use Rattle.table.proofs.Digits.{decimal-one, decimal-more}
+use Rattle.table.proofs.Digits.{decimal-one, decimal-more, word-digits}
 use Rattle.table.proofs.put_decimal.Reads as put-decimal
 use Rattle.table.proofs.put_decimal.Kinds as put-decimal-kinds
 use Rattle.table.proofs.+put_decimal.Lts-put_decimal as lts
@@ -36,7 +36,9 @@ put-byte-requires t c κs =
     omega (arith, c .before .before .before .pre .1)
 
 returns : (t : ℕ) → lts.Need-returns (put-byte.Asked, put-byte.Learnt, below t, put-decimal.Post) (at t) put-decimal.Post
-returns t c = rw (decimal-one _ (c .before .before .before .before .if1 .taken)) (c .before .before .put-byte .ensures)
+returns t c =
+    let wrote = c .before .before .put-byte .ensures in
+    (rw (decimal-one _ (c .before .before .before .before .if1 .taken)) wrote, omega (arith, wrote .place))
 
 put-decimal-requires : (t : ℕ) → lts.Need-put-decimal-requires (put-byte.Asked, put-byte.Learnt, below t, put-decimal.Post) (at t) put-decimal.Post
 put-decimal-requires t c κs =
@@ -44,13 +46,16 @@ put-decimal-requires t c κs =
 
 put-byte-requires-2 : (t : ℕ) → lts.Need-put-byte-requires-2 (put-byte.Asked, put-byte.Learnt, below t, put-decimal.Post) (at t) put-decimal.Post
 put-byte-requires-2 t c κs =
-    let wrote = c .before .before .before .put-decimal .ensures in
+    let wrote = c .before .before .before .put-decimal .ensures .0 in
     omega (arith, longer _ (c .before .before .before .before .before .if1 .left), c .before .before .before .before .before .before .before .pre .1, wrote .place, wrote-length wrote)
 
 returns-2 : (t : ℕ) → lts.Need-returns-2 (put-byte.Asked, put-byte.Learnt, below t, put-decimal.Post) (at t) put-decimal.Post
 returns-2 t c =
-    rw (decimal-more _ (c .before .before .before .before .before .before .before .before .if1 .left))
-    (wrote-then (c .before .before .before .before .before .before .put-decimal .ensures) (c .before .before .put-byte2 .ensures))
+    let s = c .before .before .before .before .before .before .before .before .before .before in
+    let more = decimal-more _ (c .before .before .before .before .before .before .before .before .if1 .left) in
+    let wrote = wrote-then (c .before .before .before .before .before .before .put-decimal .ensures .0) (c .before .before .put-byte2 .ensures) in
+    let whole = rw (← more) at wrote in
+    (whole, omega (arith, whole .place, word-digits _ (s .fits .n)))
 
 pub +put-decimal-spec : {M : Type 1} → statement M
 +put-decimal-spec =

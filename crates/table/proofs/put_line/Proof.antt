@@ -1,14 +1,14 @@
--- `put_line`: the row of what is found for the flow is the plan's line, and short.
+-- `put_line`: the row of what is found for the flow is the plan's line.
 use borrow.Author.Needs.{needs}
-use mathlib.Core.Path.{_≡_, ap, sym, _∙_}
-use Prim.Native.Nat.{ℕ, _<_}
+use mathlib.Core.Path.{_≡_, sym, _∙_}
+use Prim.Native.Nat.{_<_}
 use native.Mathlib.Omega.{arith}
 use lib.ListN.{length}
 use Rattle.flow.specs.Plan.{PlanOk}
 use Rattle.plan.specs.Layout.{planOf}
-use Rattle.bounds.proofs.Opened.{opened-pair, opened-ok, opened-count, opened-sx}
+use Rattle.bounds.proofs.Opened.{opened-ok, opened-count, opened-sx}
 use Rattle.table.specs.Table.{row, line}
-use Rattle.table.proofs.Rows.{window-fits, line-most}
+use Rattle.table.proofs.Rows.{window-fits}
 use Rattle.table.proofs.put_line.Statement.{statement}
 use Rattle.table.proofs.put_line.Tie as tie
 
@@ -31,7 +31,7 @@ wait-of-requires c κs =
     let p = ok (c .before .before .before .before .before) in
     let flow = p .flow-ok _ (in-plan s) in (
       rw (c .before .before .before .flow-of .ensures) (flow .period-least, flow .period-most),
-      λ T e. window-fits _ p _ T (sym (c .before .before .window-found .ensures) ∙ e),
+      λ T e. window-fits _ _ T (sym (c .before .before .window-found .ensures) ∙ e),
     )
 
 -- the row is the plan's line
@@ -50,13 +50,10 @@ same c =
       ← (opened-sx _ _ (s .pre .0)),
     )
 
-put-row-requires : tie.Need-put-row-requires
-put-row-requires c κs =
-    let s = c .before .before .before .before .before .before .before .before in
-    rw (same (c .before)) (omega (arith, s .pre .1 .1, line-most _ (ok (c .before .before .before .before .before .before .before)) _ (in-plan s)))
-
 returns : tie.Need-returns
-returns c = rw (same (c .before .before .before .before)) at (c .before .before .put-row .ensures)
+returns c =
+    let wrote = c .before .before .put-row .ensures in
+    (rw (same (c .before .before .before .before)) at (wrote .0), wrote .1)
 
 pub put-line-spec : {M : Type 1} → statement M
 put-line-spec =
@@ -67,6 +64,6 @@ put-line-spec =
     (λ c κs. search needs)
     port-requires
     wait-of-requires
-    put-row-requires
+    (λ c κs. search needs)
     (λ c. search needs)
     returns)

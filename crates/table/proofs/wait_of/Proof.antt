@@ -1,6 +1,6 @@
 -- `wait_of`: by the cases of the window.
 use borrow.Author.Needs.{needs}
-use mathlib.Core.Path.{ap, _∙_}
+use mathlib.Core.Path.{ap}
 use Rattle.window.specs.declared.Found.the-variants.{At}
 use Rattle.table.proofs.wait_of.Statement.{statement}
 use Rattle.table.proofs.wait_of.Tie as tie

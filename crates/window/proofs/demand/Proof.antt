@@ -1,9 +1,9 @@
 -- `demand`: the sum so far is the demand of the rivals passed, and small.
-use mathlib.Core.Path.{_≡_, sym, ap, _∙_}
-use Prim.Native.Nat.{ℕ, _+_, _-_, _*_, _≤_, _<_}
+use mathlib.Core.Path.{_≡_, sym}
+use Prim.Native.Nat.{_+_, _-_, _≤_}
 use native.Mathlib.Omega.{arith}
 use Rattle.window.specs.Rivals.{demandOf}
-use Rattle.window.proofs.Rivals.{demand-none, demand-more, demand-most, rival-most}
+use Rattle.window.proofs.Rivals.{demand-none, demand-more, demand-most}
 use Rattle.window.proofs.demand.Statement.{statement}
 use Rattle.window.proofs.demand.Tie as tie
 

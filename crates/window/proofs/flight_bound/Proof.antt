@@ -1,6 +1,5 @@
 -- `flight_bound`: the definition's own sum, which is small.
 use borrow.Author.Needs.{needs}
-use mathlib.Core.Path.{_≡_, refl}
 use Prim.Native.Nat.{_+_, _*_, _≤_}
 use native.Mathlib.Omega.{arith}
 use Rattle.window.specs.Flight.{mostFlight}

@@ -1,6 +1,6 @@
 -- `least_window`: no number below t is a window; where t is none, the leap skips none.
-use mathlib.Core.Path.{_≡_, sym}
-use Prim.Native.Nat.{ℕ, _+_, _-_, _*_, _≤_, _<_}
+use mathlib.Core.Path.{sym}
+use Prim.Native.Nat.{_+_, _-_, _≤_}
 use native.Mathlib.Omega.{arith}
 use Rattle.window.specs.Window.{mostWindow}
 use Rattle.window.specs.Rivals.{demandOf}
