@@ -59,7 +59,7 @@ module _ (p : Plan) (f m : ℕ) (l : List ℕ) (n : ℕ) (h : RivalsAmong p f m 
         let all = ok .flows-most in
         let room : rivalWords * n + 2 < length l = omega (arith, h .words .long) in
         record {
-          words = with-ok l n (flowAt p m) j room (h .words) (omega arith) (g .burst-most) (g .period-least) most;
+          words = with-ok l n (flowAt p m) j room (h .words) (omega arith) (g .burst-least) (g .burst-most) (g .period-least) most;
           few = omega arith;
           sum = λ t. with-demand l n (flowAt p m) j room t ∙ sym (rw e at (next-sum t));
         }

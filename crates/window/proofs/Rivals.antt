@@ -83,8 +83,8 @@ module _ (l : List ℕ) (n : ℕ) (g : Flow) (j : ℕ) (room : rivalWords * n + 
   with-demand t =
       demand-more with-g n t ∙ rw (share-last t, sum-same (rivalShare with-g t) (rivalShare l t) n (share-below t))
 
-  pub with-ok : Rivals l n → n < mostFlows → g .burst ≤ mostBurst → 1 ≤ g .period → j ≤ mostSpread → Rivals with-g (n + 1)
-  with-ok r few burst period spread =
+  pub with-ok : Rivals l n → n < mostFlows → 1 ≤ g .burst → g .burst ≤ mostBurst → 1 ≤ g .period → j ≤ mostSpread → Rivals with-g (n + 1)
+  with-ok r few some burst period spread =
       record {
         few = omega arith;
         long = simp length-set (r .long);
@@ -92,10 +92,11 @@ module _ (l : List ℕ) (n : ℕ) (g : Flow) (j : ℕ) (room : rivalWords * n + 
             elim (decLe n k) [
               | yes last ↦
                   let same : k ≡ n = omega arith in
-                  rw same (record { burst-most = rw with-burst burst; period-least = rw with-period period; spread-most = rw with-spread spread })
+                  rw same (record { burst-least = rw with-burst some; burst-most = rw with-burst burst; period-least = rw with-period period; spread-most = rw with-spread spread })
               | no before ↦
                   let ok = r .rival-ok k (omega arith) in
                   record {
+                    burst-least = rw (with-below (rivalWords * k) (omega arith)) (ok .burst-least);
                     burst-most = rw (with-below (rivalWords * k) (omega arith)) (ok .burst-most);
                     period-least = rw (with-below (rivalWords * k + 1) (omega arith)) (ok .period-least);
                     spread-most = rw (with-below (rivalWords * k + 2) (omega arith)) (ok .spread-most);

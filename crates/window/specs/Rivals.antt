@@ -1,7 +1,7 @@
 -- The rivals of a flow, the flows that conflict with it, as the search keeps them: three words each, σ, P and J.
 use mathlib.Core.List.{List}
 use mathlib.Core.Path.{_≡_}
-use Prim.Native.Nat.{ℕ, _+_, _-_, _*_, _≤_, _<_}
+use Prim.Native.Nat.{ℕ, _+_, _-_, _*_, _/_, _≤_, _<_}
 use lib.ListN.{length, getD, set}
 use Rattle.laws.specs.Bounded.{sumBelow}
 use Rattle.flow.specs.declared.Flow.{Flow}
@@ -27,12 +27,25 @@ rivalShare l t k = curve (getD l (rivalWords * k) 0) (getD l (rivalWords * k + 1
 unfoldable pub demandOf : List ℕ → ℕ → ℕ → ℕ
 demandOf l n t = sumBelow n (rivalShare l t)
 
+-- a link that is filled, in parts of a packet per cycle
+abbrev pub wholeLink : ℕ
+wholeLink = 4294967296
+
+-- the rate of rival number k of the words l, in those parts
+unfoldable pub rivalRate : List ℕ → ℕ → ℕ
+rivalRate l k = wholeLink / getD l (rivalWords * k + 1) 0
+
+-- the rates of the first n rivals of the words l
+unfoldable pub ratesOf : List ℕ → ℕ → ℕ
+ratesOf l n = sumBelow n (rivalRate l)
+
 -- the largest spread: fewer than 16 rows, at most 16 columns
 abbrev pub mostSpread : ℕ
 mostSpread = 256
 
 -- rival number k of the words l has numbers in range
 pub record RivalOk (l : List ℕ) (k : ℕ) : Type 0 where
+  pub burst-least : 1 ≤ getD l (rivalWords * k) 0
   pub burst-most : getD l (rivalWords * k) 0 ≤ mostBurst
   pub period-least : 1 ≤ getD l (rivalWords * k + 1) 0
   pub spread-most : getD l (rivalWords * k + 2) 0 ≤ mostSpread

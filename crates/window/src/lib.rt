@@ -6,7 +6,7 @@ ghost use Rattle.window.specs.Conflict.{Pair, conflict, conflictEast, co
 ghost use Rattle.window.specs.Window.{mostWindow, leastFrom, loneWait};
 ghost use Rattle.flow.specs.Plan.{FlowOk, mostSize, mostPeriod};
 ghost use Rattle.window.specs.Flight.{flightBound, mostFlight};
-ghost use Rattle.window.specs.Rivals.{rivalWords, rivalShare, demandOf, Rivals, RivalOk, kept, keptWith};
+ghost use Rattle.window.specs.Rivals.{rivalWords, rivalShare, rivalRate, ratesOf, wholeLink, demandOf, Rivals, RivalOk, kept, keptWith};
 use flow::Flow;
 use flow::Port;
 
@@ -15,6 +15,8 @@ pub const MOST_WINDOW: u32 = 65535;
 
 // A rival is kept as three words: its burst, its period and its spread.
 pub const RIVAL_WORDS: usize = 3;
+// A link that is filled, in parts of a packet per cycle.
+const WHOLE_LINK: u64 = 4294967296;
 
 // The words of 256 rivals.
 pub const MOST_RIVAL_WORDS: usize = 768;
@@ -105,8 +107,30 @@ fn demand(rivals: &[u32], n: usize, t: u32) -> u32
     sum
 }
 
-// The least window that the n rivals leave. Where they leave none at t, none is left up to their demand.
-pub fn least_window(rivals: &[u32], n: usize) -> Found
+// The rate of rival number k.
+fn rival_rate(rivals: &[u32], k: usize) -> u64
+    requires { ⌜ (rivalWords * k + 2 < length (now rivals)) × (RivalOk (now rivals) k) ⌝ }
+    ensures { λ r. ⌜ (r ≡ rivalRate (now (rivals .entry)) k) × (r ≤ wholeLink) ⌝ }
+{
+    let at = RIVAL_WORDS * k;
+    let period = rivals[at + 1];
+    WHOLE_LINK / (period as u64)
+}
+
+// The rates of the first n rivals.
+fn rates_of(rivals: &[u32], n: usize) -> u64
+    requires { ⌜ Rivals (now rivals) n ⌝ }
+    ensures { λ r. ⌜ r ≡ ratesOf (now (rivals .entry)) n ⌝ }
+{
+    let mut sum = 0u64;
+    for k in 0..n {
+        sum += rival_rate(rivals, k);
+    }
+    sum
+}
+
+// The search for the least window. Where the rivals leave none at t, none is left up to their demand.
+fn search(rivals: &[u32], n: usize) -> Found
     requires { ⌜ Rivals (now rivals) n ⌝ }
     ensures { λ r. ⌜ r ≡ leastFrom (demandOf (now (rivals .entry)) n) mostWindow 1 ⌝ }
 {
@@ -121,6 +145,17 @@ pub fn least_window(rivals: &[u32], n: usize) -> Found
         }
         t = d + 1;
     }
+}
+
+// The least window that the n rivals leave. Where their rates fill the link there is none.
+pub fn least_window(rivals: &[u32], n: usize) -> Found
+    requires { ⌜ Rivals (now rivals) n ⌝ }
+    ensures { λ r. ⌜ r ≡ leastFrom (demandOf (now (rivals .entry)) n) mostWindow 1 ⌝ }
+{
+    if WHOLE_LINK <= rates_of(rivals, n) {
+        return Found::Nothing;
+    }
+    search(rivals, n)
 }
 
 // Flow g with its conflict, after n rivals: three words more if it is one.
