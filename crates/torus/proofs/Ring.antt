@@ -6,7 +6,7 @@ use native.Mathlib.Nat.{mod-eq-of-lt, mod-lt, mod-self, add-mod-right}
 use native.Mathlib.Decide.{decLe, ℕ-discrete}
 use native.Mathlib.Omega.{arith}
 use borrow.Author.Tests.{eq-eqb, ne-eqb}
-use Rattle.torus.specs.Ring.{offset, next, lap}
+use Rattle.torus.specs.Ring.{offset, next, lap, previous}
 
 -- `to` lies at or after `from`, or the way goes round the end once
 pub offset-cases : (size from to : ℕ) → from < size → to < size
@@ -61,6 +61,28 @@ next-one size a b l m e =
       | inl h ↦ elim (next-cases size b m) [ inl k ↦ omega arith | inr k ↦ absurd (omega arith) ]
       | inr h ↦ elim (next-cases size b m) [ inl k ↦ absurd (omega arith) | inr k ↦ omega arith ]
     ]
+
+-- before 0 comes the last
+pub previous-cases : (size at : ℕ) → ((at ≡ 0) × (previous size at ≡ size - 1)) ⊎ ((1 ≤ at) × (previous size at ≡ at - 1))
+unfolding previous
+previous-cases size at =
+    elim (ℕ-discrete at 0) [ yes e ↦ inl (e, rw (eq-eqb at 0 e)) | no e ↦ inr (omega arith, rw (ne-eqb at 0 e)) ]
+
+pub previous-below : (size at : ℕ) → at < size → previous size at < size
+previous-below size at l = elim (previous-cases size at) [ inl h ↦ omega arith | inr h ↦ omega arith ]
+
+-- the place next to the previous one, and the one before the next
+pub next-previous : (size at : ℕ) → at < size → next size (previous size at) ≡ at
+next-previous size at l =
+    elim (previous-cases size at) [
+      | inl h ↦ elim (next-cases size (previous size at) (previous-below size at l)) [ inl k ↦ omega arith | inr k ↦ absurd (omega arith) ]
+      | inr h ↦ elim (next-cases size (previous size at) (previous-below size at l)) [ inl k ↦ absurd (omega arith) | inr k ↦ omega arith ]
+    ]
+
+pub previous-next : (size at : ℕ) → at < size → previous size (next size at) ≡ at
+previous-next size at l =
+    next-one size (previous size (next size at)) at (previous-below size (next size at) (next-below size at l)) l
+    (next-previous size (next size at) (next-below size at l))
 
 -- each place is next to one
 pub next-of : (size to : ℕ) → to < size → (at : ℕ) × (at < size) × (next size at ≡ to)
