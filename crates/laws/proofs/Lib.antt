@@ -4,4 +4,6 @@ pub mod Bounded
 pub mod Sum
 pub mod Count
 pub mod Parts
+pub mod Stands
+pub mod Grid
 pub mod Turns
