@@ -4,3 +4,4 @@ pub mod Entry
 pub mod Step
 pub mod Offer
 pub mod Calls
+pub mod Bounds
