@@ -1,1 +1,2 @@
 -- The laws of the cycle.
+pub mod Entrant

@@ -5,3 +5,4 @@ pub mod Step
 pub mod Offer
 pub mod Calls
 pub mod Bounds
+pub mod Walk
