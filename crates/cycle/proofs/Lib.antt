@@ -1,2 +1,3 @@
 -- The laws of the cycle.
 pub mod Entrant
+pub mod Push

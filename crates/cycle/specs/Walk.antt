@@ -1,15 +1,24 @@
 -- What the walks of a step keep between them. Only promises of inner functions name these; proofs/ ties them to Entry and Step.
 use mathlib.Core.Bool.{Bool, cond, _&&_}
-use Prim.Native.Nat.{ℕ, zero, suc, _+_, _-_}
+use mathlib.Core.List.{List}
+use Prim.Native.Nat.{ℕ, zero, suc, _+_, _*_}
 use lib.Dec.{eqb}
+use lib.Seq.{sets}
+use Rattle.laws.specs.Grid.{cellIndex}
+use Rattle.laws.specs.Turns.{turns}
+use Rattle.torus.specs.Ring.{next}
 use Rattle.flow.specs.declared.Flow.{Flow}
 use Rattle.flow.specs.declared.Port.{Port}
 use Rattle.flow.specs.Offsets.{portOf}
 use Rattle.flow.specs.Plan.{flowAt}
 use Rattle.state.specs.declared.Register.{Register}
 use Rattle.state.specs.declared.Register.the-variants.{Empty}
+use Rattle.state.specs.Layout.{registerSize, routerSize, flowPlace}
 use Rattle.state.specs.State.{State}
+use Rattle.state.specs.Words.{registerWords}
+use Rattle.state.specs.Read.{countIn, sxIn, syIn, stateOf}
 use Rattle.cycle.specs.Entry.{ready, entering, isPort}
+use Rattle.cycle.specs.Step.{eastward, southward, exits}
 
 -- flow f's client is the router in column x and row y
 abbrev pub isClient : State → (x y : ℕ) → ℕ → Bool
@@ -26,3 +35,31 @@ entrant s x y (suc n) = cond (eqb (entrant s x y n) 0) (cond (isClient s x y n &
 unfoldable pub sendsBy : State → Port → (entrant : ℕ) → Register
 sendsBy s port zero = Empty
 sendsBy s port (suc f) = cond (isPort port (portOf (s .plan .sx) (flowAt (s .plan) f))) (entering s f) Empty
+
+-- where the registers of the router in column x and row y stand, with the first at `base`
+abbrev pub cellPlace : (base sx x y : ℕ) → ℕ
+cellPlace base sx x y = base + routerSize * cellIndex sx x y
+
+-- the words l, after the router in column x and row y has sent these E and S
+abbrev pub push : (base sx sy : ℕ) → (east south : Register) → (x y : ℕ) → List ℕ → List ℕ
+push base sx sy east south x y l =
+    sets (sets l (cellPlace base sx (next sx x) y) (registerWords east))
+    (cellPlace base sx x (next sy y) + registerSize)
+    (registerWords south)
+
+-- what reaches the N register to the south: nothing if it exits
+abbrev pub reaches : State → (x y : ℕ) → Register
+reaches s x y = cond (exits s x y) Empty (southward s x y)
+
+-- the words l, after that router of the state with words w
+unfoldable pub pushed : (w : List ℕ) → (x y : ℕ) → List ℕ → List ℕ
+pushed w x y l =
+    let s = stateOf w in
+    push (flowPlace (countIn w)) (sxIn w) (syIn w) (eastward s x y) (reaches s x y) x y l
+
+-- after a row's routers, and after all
+unfoldable pub pushedRow : (w : List ℕ) → (y : ℕ) → List ℕ → List ℕ
+pushedRow w y l = turns (sxIn w) (λ x. pushed w x y) l
+
+unfoldable pub pushedAll : (w : List ℕ) → List ℕ → List ℕ
+pushedAll w l = turns (syIn w) (pushedRow w) l

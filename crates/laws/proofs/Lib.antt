@@ -6,4 +6,5 @@ pub mod Count
 pub mod Parts
 pub mod Stands
 pub mod Grid
+pub mod Stores
 pub mod Turns
