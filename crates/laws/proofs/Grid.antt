@@ -2,14 +2,14 @@
 use mathlib.Core.List.{List, [], _∷_, _++_, append-nil}
 use mathlib.Core.Path.{_≡_, refl, sym, ap, _∙_}
 use Prim.Native.Nat.{ℕ, zero, suc, _+_, _*_, _≤_, _<_}
-use native.Mathlib.Nat.{add-zero, zero-add, one-mul, add-assoc, mul-add, mul-assoc, mul-comm, mul-le-mul-left, mul-le-mul-right, mul-suc}
+use native.Mathlib.Nat.{add-zero, zero-add, one-mul, add-assoc, mul-add, mul-assoc, mul-comm, mul-le-mul-left, mul-le-mul-right, mul-suc, mul-zero}
 use native.Mathlib.Decide.{decLt, ℕ-discrete}
 use native.Mathlib.Omega.{arith}
 use lib.ListN.{length, getD, drop-of-length-le}
 use Rattle.laws.specs.Bounded.{tabulate}
 use Rattle.laws.specs.Count.{joinBelow}
 use Rattle.laws.specs.Grid.{grid, cellIndex}
-use Rattle.laws.proofs.Stands.{Stands, length-join, join-stands, stands-join, stands-in, stands-start, join-same}
+use Rattle.laws.proofs.Stands.{Stands, length-join, join-stands, stands-join, stands-in, stands-start, join-same, join-add}
 
 -- the cells before column x of row y, and that one, are of the table
 pub cell-below : (sx sy x y : ℕ) → x < sx → y < sy → cellIndex sx x y < sx * sy
@@ -36,6 +36,11 @@ place c sx x y =
 -- the parts g x y, by row, then column
 abbrev pub rows : {A : Type 0} → (sx sy : ℕ) → (ℕ → ℕ → List A) → List A
 rows sx sy g = joinBelow sy (λ y. joinBelow sx (λ x. g x y))
+
+-- the parts by one number are the parts by row, then column
+pub join-rows : {A : Type 0} (sx sy : ℕ) (h : ℕ → List A) → joinBelow (sx * sy) h ≡ rows sx sy (λ x y. h (cellIndex sx x y))
+join-rows sx zero h = rw mul-zero
+join-rows sx (suc sy) h = rw (mul-suc, join-add (sx * sy) sx h, join-rows sx sy h, mul-comm sx sy)
 
 module _ {A : Type 0} (d : A) (c sx sy : ℕ) (g : ℕ → ℕ → List A) (long : (x y : ℕ) → x < sx → y < sy → length (g x y) ≡ c) where
   row-length : (y : ℕ) → y < sy → length (joinBelow sx (λ x. g x y)) ≡ c * sx

@@ -1,14 +1,16 @@
 -- A part that stands in a list at a place, and the laws by which parts are read, joined and written. Rests on lib.Seq.
-use mathlib.Core.List.{List, [], _∷_, _++_}
+use mathlib.Core.List.{List, [], _∷_, _++_, append-nil, append-assoc}
 use mathlib.Core.Logic.{_⊎_, inl, inr}
 use mathlib.Core.Path.{_≡_, refl, sym, ap, _∙_}
 use Prim.Native.Nat.{ℕ, zero, suc, _+_, _-_, _*_, _≤_, _<_}
-use native.Mathlib.Nat.{add-zero, zero-add, add-assoc, eq-or-lt-of-le, le-of-suc-le-suc}
+use native.Mathlib.Nat.{add-zero, zero-add, add-suc, add-assoc, eq-or-lt-of-le, le-of-suc-le-suc}
 use native.Mathlib.Decide.{decLt}
 use native.Mathlib.Omega.{arith}
 use lib.ListN.{length, getD, take, drop, set, length-append, length-set, length-take, take-append-drop, List·getD-append}
 use lib.Seq.{sets, length-sets, ext-getD, getD-take, getD-append-add, getD-set-same, getD-set-other, length-take-le}
+use Rattle.laws.specs.Bounded.{tabulate}
 use Rattle.laws.specs.Count.{joinBelow}
+use Rattle.laws.proofs.Bounded.{length-tabulate, getD-tabulate}
 
 -- the entries of b are those of l from `at` on
 pub record Stands {A : Type 0} (d : A) (l : List A) (at : ℕ) (b : List A) : Type 0 where
@@ -25,6 +27,11 @@ module _ {A : Type 0} where
   pub join-same : (n : ℕ) (f g : ℕ → List A) → ((i : ℕ) → i < n → f i ≡ g i) → joinBelow n f ≡ joinBelow n g
   join-same zero f g e = refl
   join-same (suc n) f g e = rw (join-same n f g (λ i h. e i (omega arith)), e n (omega arith))
+
+  -- the first n, then m more
+  pub join-add : (n m : ℕ) (f : ℕ → List A) → joinBelow (n + m) f ≡ joinBelow n f ++ joinBelow m (λ i. f (n + i))
+  join-add n zero f = rw (add-zero, append-nil)
+  join-add n (suc m) f = rw (add-suc, join-add n m f, append-assoc)
 
 module _ {A : Type 0} (d : A) where
   -- a list stands in itself
@@ -102,6 +109,15 @@ module _ {A : Type 0} (d : A) where
     where
       here : (j : ℕ) → j < length b → getD (take (length b) l) j d ≡ getD b j d
       here j h = getD-take (length b) l j d h ∙ ap (λ i. getD l i d) (sym (zero-add j)) ∙ s .same j h
+
+  -- the next n entries of a list
+  pub stands-entries : (l : List A) (at n : ℕ) → at + n ≤ length l → Stands d l at (tabulate n (λ k. getD l (at + k) d))
+  stands-entries l at n h =
+      let long = length-tabulate n (λ k. getD l (at + k) d) in
+      record {
+        fits = omega arith;
+        same = λ j m. sym (getD-tabulate n (λ k. getD l (at + k) d) j d (omega arith));
+      }
 
   -- a run of stores leaves its values, and every entry outside
   pub sets-other : (l : List A) (i : ℕ) (vs : List A) (k : ℕ) → (k < i) ⊎ (i + length vs ≤ k) → getD (sets l i vs) k d ≡ getD l k d

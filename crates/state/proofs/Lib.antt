@@ -1,1 +1,6 @@
 -- The laws of the state and its words.
+pub mod Words
+pub mod Read
+pub mod View
+pub mod Forms
+pub mod Again
