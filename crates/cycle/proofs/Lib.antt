@@ -1,3 +1,4 @@
 -- The laws of the cycle.
 pub mod Entrant
+pub mod Facts
 pub mod Push

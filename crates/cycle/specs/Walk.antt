@@ -1,9 +1,12 @@
 -- What the walks of a step keep between them. Only promises of inner functions name these; proofs/ ties them to Entry and Step.
 use mathlib.Core.Bool.{Bool, cond, _&&_}
 use mathlib.Core.List.{List}
-use Prim.Native.Nat.{ℕ, zero, suc, _+_, _*_}
+use mathlib.Core.Path.{_≡_}
+use Prim.Native.Nat.{ℕ, zero, suc, _+_, _-_, _*_, _≤_, _<_}
 use lib.Dec.{eqb}
+use lib.ListN.{length, getD}
 use lib.Seq.{sets}
+use Rattle.laws.specs.Count.{one}
 use Rattle.laws.specs.Grid.{cellIndex}
 use Rattle.laws.specs.Turns.{turns}
 use Rattle.torus.specs.Ring.{next}
@@ -11,14 +14,16 @@ use Rattle.flow.specs.declared.Flow.{Flow}
 use Rattle.flow.specs.declared.Port.{Port}
 use Rattle.flow.specs.Offsets.{portOf}
 use Rattle.flow.specs.Plan.{flowAt}
+use Rattle.bucket.specs.Regulator.{afterCycle}
 use Rattle.state.specs.declared.Register.{Register}
 use Rattle.state.specs.declared.Register.the-variants.{Empty}
-use Rattle.state.specs.Layout.{registerSize, routerSize, flowPlace}
+use Rattle.state.specs.declared.Tally.{Tally}
+use Rattle.state.specs.Layout.{registerSize, routerSize, flowPlace, numberSize}
 use Rattle.state.specs.State.{State}
-use Rattle.state.specs.Words.{registerWords}
+use Rattle.state.specs.Words.{registerWords, tallyWords}
 use Rattle.state.specs.Read.{countIn, sxIn, syIn, stateOf}
 use Rattle.cycle.specs.Entry.{ready, entering, isPort}
-use Rattle.cycle.specs.Step.{eastward, southward, exits}
+use Rattle.cycle.specs.Step.{eastward, southward, exits, nextTally}
 
 -- flow f's client is the router in column x and row y
 abbrev pub isClient : State → (x y : ℕ) → ℕ → Bool
@@ -35,6 +40,24 @@ entrant s x y (suc n) = cond (eqb (entrant s x y n) 0) (cond (isClient s x y n &
 unfoldable pub sendsBy : State → Port → (entrant : ℕ) → Register
 sendsBy s port zero = Empty
 sendsBy s port (suc f) = cond (isPort port (portOf (s .plan .sx) (flowAt (s .plan) f))) (entering s f) Empty
+
+-- the entrants of all clients after n flows, in the order of the routers
+pub record Entrants (s : State) (n : ℕ) (l : List ℕ) : Type 0 where
+  pub room : s .plan .sx * s .plan .sy ≤ length l
+  pub at : (x y : ℕ) → x < s .plan .sx → y < s .plan .sy → getD l (cellIndex (s .plan .sx) x y) 0 ≡ entrant s x y n
+
+-- a flow's tally after a cycle in which it entered or not
+unfoldable pub tallyAfter : Flow → Tally → (entered : Bool) → Tally
+tallyAfter f t entered =
+    record {
+      bucket = afterCycle (f .burst) (f .period) entered (t .bucket);
+      entered = t .entered + one entered;
+      waiting = t .waiting - one entered;
+    }
+
+-- the words l, after the tally of flow f has been written
+unfoldable pub tallied : (w : List ℕ) → (f : ℕ) → List ℕ → List ℕ
+tallied w f l = sets l (flowPlace f + numberSize) (tallyWords (nextTally (stateOf w) f))
 
 -- where the registers of the router in column x and row y stand, with the first at `base`
 abbrev pub cellPlace : (base sx x y : ℕ) → ℕ

@@ -1,9 +1,21 @@
 // One cycle of the torus on a state's words, and offers. Rests on state.
+use flow::Flow;
+use flow::Port;
+use state::Cell;
 use state::Register;
+use state::Tally;
 ghost use mathlib.Core.Path.{_≡_};
 ghost use mathlib.Core.Bool.{cond};
-ghost use Prim.Native.Nat.{_+_, _<_, _≤_};
-ghost use Rattle.cycle.specs.Router.{isEmpty, deflected, firstOf};
+ghost use Prim.Native.Nat.{_+_, _*_, _<_, _≤_};
+ghost use lib.ListN.{length};
+ghost use lib.Seq.{sets};
+ghost use Rattle.laws.specs.Grid.{cellIndex};
+ghost use Rattle.flow.specs.Plan.{flowAt};
+ghost use Rattle.state.specs.State.{tallyAt, cellAt};
+ghost use Rattle.state.specs.Words.{flowOf};
+ghost use Rattle.state.specs.Read.{sxIn, syIn, countIn, routerIn, stateOf};
+ghost use Rattle.state.proofs.Forms.{StateFacts};
+ghost use Rattle.cycle.specs.Router.{isEmpty, turnsSouth, atHome, deflected, firstOf};
 ghost use Rattle.cycle.specs.Bounds.{deflectionsOf};
 
 fn is_empty(r: Register) -> bool
@@ -75,4 +87,89 @@ fn sent_south(turns: bool, west: Register, north: Register, client: Register) ->
         return west;
     }
     first_of(north, client)
+}
+
+// Where the router in column x and row y stands among the routers.
+fn router_index(sx: u32, x: u32, y: u32) -> usize
+    requires { ⌜ (sx ≤ 16) × ((x < sx) × (y < 16)) ⌝ }
+    ensures { λ r. ⌜ (r ≡ cellIndex sx x y) × (r < 256) ⌝ }
+{
+    (y * sx + x) as usize
+}
+
+// Where its registers stand.
+fn router_place(state: &[u32], x: u32, y: u32) -> usize
+    requires { ⌜ StateFacts (now state) ⌝ }
+    requires { ⌜ (x < sxIn (now state)) × (y < syIn (now state)) ⌝ }
+    ensures { λ r. ⌜ r ≡ routerIn (now (state .entry)) x y ⌝ }
+{
+    let flows = state[2] as usize;
+    8 + 10 * flows + 8 * router_index(state[0], x, y)
+}
+
+// The plan numbers of flow f.
+fn flow_at(state: &[u32], f: u32) -> Flow
+    requires { ⌜ StateFacts (now state) ⌝ }
+    requires { ⌜ f < countIn (now state) ⌝ }
+    ensures { λ r. ⌜ r ≡ flowAt ((stateOf (now (state .entry))) .plan) f ⌝ }
+{
+    state::flow_in(state, 8 + 10 * (f as usize))
+}
+
+// Its bucket, entered and waiting.
+fn tally_at(state: &[u32], f: u32) -> Tally
+    requires { ⌜ StateFacts (now state) ⌝ }
+    requires { ⌜ f < countIn (now state) ⌝ }
+    ensures { λ r. ⌜ r ≡ tallyAt (stateOf (now (state .entry))) f ⌝ }
+{
+    state::tally_in(state, 8 + 10 * (f as usize))
+}
+
+// The registers of the router in column x and row y.
+fn cell_at(state: &[u32], x: u32, y: u32) -> Cell
+    requires { ⌜ StateFacts (now state) ⌝ }
+    requires { ⌜ (x < sxIn (now state)) × (y < syIn (now state)) ⌝ }
+    ensures { λ r. ⌜ r ≡ cellAt (stateOf (now (state .entry))) x y ⌝ }
+{
+    state::cell_in(state, router_place(state, x, y))
+}
+
+// A W packet in column x goes S.
+fn turns_south(state: &[u32], x: u32, west: Register) -> bool
+    requires { ⌜ StateFacts (now state) ⌝ }
+    requires { ⌜ flowOf west < countIn (now state) ⌝ }
+    ensures { λ r. ⌜ r ≡ turnsSouth ((stateOf (now (state .entry))) .plan) x west ⌝ }
+{
+    match west {
+        Register::Empty => false,
+        Register::Packet {
+            flow,
+            serial: _,
+            entry: _,
+            deflections: _,
+        } => x == flow_at(state, flow).xd,
+    }
+}
+
+// The router in column x and row y is the packet's destination.
+fn at_home(state: &[u32], x: u32, y: u32, r: Register) -> bool
+    requires { ⌜ StateFacts (now state) ⌝ }
+    requires { ⌜ flowOf r < countIn (now state) ⌝ }
+    ensures { λ h. ⌜ h ≡ atHome ((stateOf (now (state .entry))) .plan) x y r ⌝ }
+{
+    match r {
+        Register::Empty => false,
+        Register::Packet {
+            flow,
+            serial: _,
+            entry: _,
+            deflections: _,
+        } => {
+            let f = flow_at(state, flow);
+            if x != f.xd {
+                return false;
+            }
+            y == f.yd
+        }
+    }
 }

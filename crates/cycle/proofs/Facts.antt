@@ -1,0 +1,83 @@
+-- What the words of a state give to one cycle: room, flows in range, few deflections. Rests on the facts of state.
+use mathlib.Core.Bool.{Bool, true, _&&_}
+use mathlib.Core.List.{List}
+use mathlib.Core.Path.{_≡_, refl, sym, ap, _∙_}
+use Prim.Native.Nat.{ℕ, _+_, _-_, _*_, _≤_, _<_}
+use native.Mathlib.Omega.{arith}
+use borrow.Author.Tests.{leb-true}
+use lib.Dec.{leb, eqb}
+use lib.ListN.{length}
+use Rattle.laws.proofs.Cases.{and-true}
+use Rattle.torus.specs.Ring.{offset}
+use Rattle.torus.proofs.Ring.{offset-below}
+use Rattle.flow.specs.declared.Flow.{Flow}
+use Rattle.flow.specs.Offsets.{ΔX, ΔY}
+use Rattle.flow.specs.Plan.{flowAt, FlowOk}
+use Rattle.book.specs.Line.{Place, W, N}
+use Rattle.book.specs.InPlace.{inPlace, inNorth, rowsDone}
+use Rattle.state.specs.declared.Register.{Register}
+use Rattle.state.specs.declared.Register.the-variants.{Empty, Packet}
+use Rattle.state.specs.Layout.{registerSize, routerSize, flowSize, flowPlace}
+use Rattle.state.specs.State.{tallyAt, cellAt}
+use Rattle.state.specs.Words.{flowOf}
+use Rattle.state.specs.Read.{sxIn, syIn, countIn, clockIn, flowIn, registerIn, routerIn, stateOf}
+use Rattle.state.specs.Forms.{registerFits}
+use Rattle.state.proofs.Forms.{HeaderFacts, FlowFacts, TallyFacts, PacketFacts, StateFacts, packet-facts}
+use Rattle.state.proofs.View.{view-flow, view-tally, view-cell}
+use Rattle.state.proofs.Words.{router-below}
+use Rattle.cycle.specs.Bounds.{deflectionsOf}
+
+module _ (w : List ℕ) (s : StateFacts w) where
+  -- a router's registers lie in the memory
+  pub router-fits : (x y : ℕ) → x < sxIn w → y < syIn w → routerIn w x y + routerSize ≤ length w
+  router-fits x y h k =
+      let long = s .long in
+      omega (arith, router-below (countIn w) (sxIn w) (syIn w) x y h k)
+
+  -- flow f's numbers and tally are in their ranges
+  pub flow-ok : (f : ℕ) → f < countIn w → FlowOk (sxIn w) (syIn w) (flowAt ((stateOf w) .plan) f)
+  unfolding stateOf
+  flow-ok f h = rw (view-flow w f h) (s .flow f h .numbers)
+
+  pub tally-ok : (f : ℕ) → f < countIn w → TallyFacts (clockIn w) (flowAt ((stateOf w) .plan) f) (tallyAt (stateOf w) f)
+  unfolding stateOf
+  tally-ok f h = rw (view-tally w f h, view-flow w f h) (s .flow f h .tally)
+
+  -- the flow of a register's packet is one of the plan
+  flow-below : (place : Place) (at : ℕ) → registerFits w place at ≡ true → flowOf (registerIn w at) < countIn w
+  flow-below place at e = of (registerIn w at) refl
+    where
+      of : (r : Register) → registerIn w at ≡ r → flowOf r < countIn w
+      of Empty q = s .header .count-least
+      of (Packet flow serial entry deflections) q = packet-facts w place at e flow serial entry deflections q .flow-below
+
+  module _ (x y : ℕ) (h : x < sxIn w) (k : y < syIn w) where
+    pub west-flow : flowOf ((cellAt (stateOf w) x y) .west) < countIn w
+    west-flow = rw (view-cell w x y h k) (flow-below (W x y) (routerIn w x y) (s .west x y h k))
+
+    pub north-flow : flowOf ((cellAt (stateOf w) x y) .north) < countIn w
+    north-flow = rw (view-cell w x y h k) (flow-below (N x y) (routerIn w x y + registerSize) (s .north x y h k))
+
+    -- a packet in N has been deflected in some of the rows that it has passed
+    pub north-deflections : deflectionsOf ((cellAt (stateOf w) x y) .north) < 16
+    unfolding inPlace
+    north-deflections = rw (view-cell w x y h k) (of (registerIn w at) refl)
+      where
+        at : ℕ
+        at = routerIn w x y + registerSize
+
+        few : (f : Flow) (D e : ℕ) → FlowOk (sxIn w) (syIn w) f → inPlace (sxIn w) (syIn w) f (N x y) D e ≡ true → D < 16
+        few f D e ok q =
+            let sizes = s .header .sy-ok in
+            let r = rowsDone (syIn w) f y in
+            let far = offset-below (syIn w) (f .ys) y (ok .ys-on) k in
+            let all = and-true (leb 1 e) (inNorth (sxIn w) (syIn w) f x r D e) q .1 in
+            let four = and-true (eqb x (f .xd) && leb 1 r && leb r (ΔY (syIn w) f) && leb D (r - 1)) (eqb e (ΔX (sxIn w) f + r + D * sxIn w)) all .0 in
+            let D-most = leb-true D (r - 1) (and-true (eqb x (f .xd) && leb 1 r && leb r (ΔY (syIn w) f)) (leb D (r - 1)) four .1) in
+            omega arith
+
+        of : (r : Register) → registerIn w at ≡ r → deflectionsOf r < 16
+        of Empty q = omega arith
+        of (Packet flow serial entry deflections) q =
+            let p = packet-facts w (N x y) at (s .north x y h k) flow serial entry deflections q in
+            few (flowIn w (flowPlace flow)) deflections (clockIn w - entry) (s .flow flow (p .flow-below) .numbers) (p .in-place)
