@@ -19,11 +19,15 @@ use Rattle.state.specs.declared.Register.{Register}
 use Rattle.state.specs.declared.Register.the-variants.{Empty}
 use Rattle.state.specs.declared.Tally.{Tally}
 use Rattle.state.specs.Layout.{registerSize, routerSize, flowPlace, numberSize}
-use Rattle.state.specs.State.{State}
+use Rattle.state.specs.State.{State, cellAt}
 use Rattle.state.specs.Words.{registerWords, tallyWords}
 use Rattle.state.specs.Read.{countIn, sxIn, syIn, stateOf}
-use Rattle.cycle.specs.Entry.{ready, entering, isPort}
+use Rattle.cycle.specs.Entry.{portOpen, ready, entering, isPort}
 use Rattle.cycle.specs.Step.{eastward, southward, exits, nextTally}
+
+-- the port of a flow at its client's router is open
+abbrev pub openFor : State → Flow → Bool
+openFor s f = portOpen (s .plan) (f .xs) (cellAt s (f .xs) (f .ys)) (portOf (s .plan .sx) f)
 
 -- flow f's client is the router in column x and row y
 abbrev pub isClient : State → (x y : ℕ) → ℕ → Bool

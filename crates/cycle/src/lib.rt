@@ -5,17 +5,19 @@ use state::Cell;
 use state::Register;
 use state::Tally;
 ghost use mathlib.Core.Path.{_≡_};
-ghost use mathlib.Core.Bool.{cond};
+ghost use mathlib.Core.Bool.{cond, true};
 ghost use Prim.Native.Nat.{_+_, _*_, _<_, _≤_};
 ghost use lib.ListN.{length};
 ghost use lib.Seq.{sets};
 ghost use Rattle.laws.specs.Grid.{cellIndex};
-ghost use Rattle.flow.specs.Plan.{flowAt};
+ghost use Rattle.flow.specs.Plan.{flowAt, FlowOk};
 ghost use Rattle.state.specs.State.{tallyAt, cellAt};
 ghost use Rattle.state.specs.Words.{flowOf};
 ghost use Rattle.state.specs.Read.{sxIn, syIn, countIn, routerIn, stateOf};
 ghost use Rattle.state.proofs.Forms.{StateFacts};
 ghost use Rattle.cycle.specs.Router.{isEmpty, turnsSouth, atHome, deflected, firstOf};
+ghost use Rattle.cycle.specs.Entry.{ready};
+ghost use Rattle.cycle.specs.Walk.{openFor, tallyAfter};
 ghost use Rattle.cycle.specs.Bounds.{deflectionsOf};
 
 fn is_empty(r: Register) -> bool
@@ -171,5 +173,66 @@ fn at_home(state: &[u32], x: u32, y: u32, r: Register) -> bool
             }
             y == f.yd
         }
+    }
+}
+
+// The flow's port at its client's router is open.
+fn port_open(state: &[u32], flow: Flow) -> bool
+    requires { ⌜ StateFacts (now state) ⌝ }
+    requires { ⌜ FlowOk (sxIn (now state)) (syIn (now state)) flow ⌝ }
+    ensures { λ r. ⌜ r ≡ openFor (stateOf (now (state .entry))) flow ⌝ }
+{
+    let cell = cell_at(state, flow.xs, flow.ys);
+    let west = cell.west;
+    let north = cell.north;
+    let port = flow.port(state[0]);
+    match port {
+        Port::East => is_empty(west),
+        Port::South => {
+            if !is_empty(north) {
+                return false;
+            }
+            !turns_south(state, flow.xs, west)
+        }
+    }
+}
+
+// Flow f has a waiting packet, a token and an open port.
+fn ready(state: &[u32], f: u32) -> bool
+    requires { ⌜ StateFacts (now state) ⌝ }
+    requires { ⌜ f < countIn (now state) ⌝ }
+    ensures { λ r. ⌜ r ≡ ready (stateOf (now (state .entry))) f ⌝ }
+{
+    let t = tally_at(state, f);
+    if t.waiting < 1 {
+        return false;
+    }
+    let bucket = t.bucket;
+    if bucket.tokens < 1 {
+        return false;
+    }
+    port_open(state, flow_at(state, f))
+}
+
+// A flow's tally after a cycle.
+fn tally_after(flow: Flow, t: Tally, enters: bool) -> Tally
+    requires { ⌜ (t .bucket .count < flow .period) × (t .entered < 4294967295) ⌝ }
+    requires { ⌜ (enters ≡ true → (1 ≤ t .bucket .tokens) × (1 ≤ t .waiting)) ⌝ }
+    ensures { λ r. ⌜ r ≡ tallyAfter flow t enters ⌝ }
+{
+    let old = t.bucket;
+    if enters {
+        let bucket = old.spend().count(flow.burst, flow.period);
+        return Tally {
+            bucket,
+            entered: t.entered + 1,
+            waiting: t.waiting - 1,
+        };
+    }
+    let bucket = old.count(flow.burst, flow.period);
+    Tally {
+        bucket,
+        entered: t.entered,
+        waiting: t.waiting,
     }
 }
