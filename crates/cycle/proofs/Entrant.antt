@@ -1,5 +1,5 @@
 -- The walk over the flows finds who enters: at most one flow at each client. Rests on specs/Entry and specs/Walk.
-use mathlib.Core.Bool.{Bool, true, false, cond, not, _&&_, _||_, and-true, and-false, and-comm}
+use mathlib.Core.Bool.{Bool, true, false, cond, not, _&&_, _||_, and-true, and-false, and-comm, false≢true}
 use mathlib.Core.Logic.{_⊎_, inl, inr}
 use mathlib.Core.Path.{_≡_, refl, sym, ap, _∙_}
 use Prim.Native.Nat.{ℕ, zero, suc, _+_, _-_, _*_, _≤_, _<_}
@@ -8,7 +8,11 @@ use native.Mathlib.Numerals.{add-one}
 use native.Mathlib.Omega.{arith}
 use borrow.Author.Tests.{eq-eqb, ne-eqb, eqb-true}
 use lib.Dec.{eqb}
-use lib.ListN.{length}
+use mathlib.Core.List.{List}
+use lib.ListN.{length, getD, set, length-set}
+use lib.Seq.{getD-set-same, getD-set-other}
+use Rattle.laws.specs.Grid.{cellIndex}
+use Rattle.laws.proofs.Grid.{cell-below, cell-one}
 use Rattle.laws.specs.Bounded.{anyBelow}
 use Rattle.laws.proofs.Cases.{test, and-true as both}
 use Rattle.flow.specs.declared.Flow.{Flow}
@@ -20,7 +24,7 @@ use Rattle.state.specs.declared.Register.the-variants.{Empty, Packet}
 use Rattle.state.specs.State.{State}
 use Rattle.cycle.specs.Router.{firstOf}
 use Rattle.cycle.specs.Entry.{ready, enters, entering, uses, isPort, clientBelow, clientSends}
-use Rattle.cycle.specs.Walk.{isClient, entrant, sendsBy}
+use Rattle.cycle.specs.Walk.{isClient, entrant, sendsBy, Entrants}
 
 module _ (s : State) where
   abbrev pub xsOf : ℕ → ℕ
@@ -44,6 +48,17 @@ module _ (s : State) where
   pub enters-walk : (f : ℕ) → enters s f ≡ eqb (entrant s (xsOf f) (ysOf f) f) 0 && ready s f
   unfolding enters
   enters-walk f = rw (none-ready (xsOf f) (ysOf f) f) (and-comm (ready s f) (not (anyBelow f (λ g. isClient s (xsOf f) (ysOf f) g && ready s g))))
+
+  -- by what the walk finds at its client
+  module _ (f e : ℕ) (found : e ≡ entrant s (xsOf f) (ysOf f) f) where
+    pub enters-not : (e ≡ 0 → ⊥) → enters s f ≡ false
+    enters-not some = enters-walk f ∙ rw (← found, ne-eqb e 0 some)
+
+    pub enters-so : e ≡ 0 → ready s f ≡ true → enters s f ≡ true
+    enters-so none yes′ = enters-walk f ∙ rw (← found, eq-eqb e 0 none, yes′)
+
+  pub enters-unready : (f : ℕ) → ready s f ≡ false → enters s f ≡ false
+  enters-unready f no′ = enters-walk f ∙ rw (no′, and-false)
 
   -- the turn of flow f: at its client, and elsewhere
   pub entrant-here : (f : ℕ)
@@ -107,3 +122,45 @@ module _ (s : State) where
       turn zero true false en h = rw (h refl, and-false)
       turn (suc f) false r en h = rw (ne-eqb (suc f) 0 (λ z. omega arith)) (first-alone (sent f))
       turn (suc f) true r en h = rw (h refl, ne-eqb (suc f) 0 (λ z. omega arith), and-false) (first-alone (sent f))
+
+  -- before the first flow there is no entrant
+  pub entrants-none : (l : List ℕ) → s .plan .sx * s .plan .sy ≤ length l → ((i : ℕ) → i < s .plan .sx * s .plan .sy → getD l i 0 ≡ 0) → Entrants s 0 l
+  unfolding entrant
+  entrants-none l long zeros =
+      record { room = long; at = λ x y h k. zeros (cellIndex (s .plan .sx) x y) (cell-below (s .plan .sx) (s .plan .sy) x y h k) }
+
+  -- a flow that doesn't enter leaves the entrants
+  pub entrants-stay : (f : ℕ) (l : List ℕ) → enters s f ≡ false → Entrants s f l → Entrants s (f + 1) l
+  entrants-stay f l no′ old = record { room = old .room; at = λ x y h k. old .at x y h k ∙ same x y (test (isClient s x y f)) }
+    where
+      same : (x y : ℕ) → (isClient s x y f ≡ true) ⊎ (isClient s x y f ≡ false) → entrant s x y f ≡ entrant s x y (f + 1)
+      same x y (inr away) = sym (entrant-elsewhere x y f away)
+      same x y (inl here) =
+          let e = both _ _ here in
+          rw (eqb-true x (xsOf f) (e .0), eqb-true y (ysOf f) (e .1)) (sym (entrant-here f ∙ rw no′))
+
+  -- one that enters is its client's
+  pub entrants-mark : (f : ℕ) (l : List ℕ) → xsOf f < s .plan .sx → ysOf f < s .plan .sy → enters s f ≡ true → Entrants s f l
+      → Entrants s (f + 1) (set l (cellIndex (s .plan .sx) (xsOf f) (ysOf f)) (f + 1))
+  entrants-mark f l hx hy yes′ old =
+      let room = old .room in
+      record { room = rw length-set room; at = λ x y h k. mark x y h k (test (isClient s x y f)) }
+    where
+      sx : ℕ
+      sx = s .plan .sx
+
+      mark : (x y : ℕ) → x < s .plan .sx → y < s .plan .sy → (isClient s x y f ≡ true) ⊎ (isClient s x y f ≡ false)
+          → getD (set l (cellIndex (s .plan .sx) (xsOf f) (ysOf f)) (f + 1)) (cellIndex (s .plan .sx) x y) 0 ≡ entrant s x y (f + 1)
+      mark x y h k (inl here) =
+          let e = both _ _ here in
+          let room = old .room in
+          rw (eqb-true x (xsOf f) (e .0), eqb-true y (ysOf f) (e .1))
+          (getD-set-same l _ (f + 1) 0 (omega (arith, cell-below (s .plan .sx) (s .plan .sy) (xsOf f) (ysOf f) hx hy))
+          ∙ sym (entrant-here f ∙ rw yes′))
+      mark x y h k (inr away) =
+          getD-set-other l _ _ (f + 1) 0 (λ e. other (cell-one (s .plan .sx) x y (xsOf f) (ysOf f) h hx e))
+          ∙ old .at x y h k
+          ∙ sym (entrant-elsewhere x y f away)
+        where
+          other : (x ≡ xsOf f) × (y ≡ ysOf f) → ⊥
+          other e = false≢true (sym away ∙ rw (e .0, e .1, eq-eqb (xsOf f) (xsOf f) refl, eq-eqb (ysOf f) (ysOf f) refl))

@@ -6,7 +6,9 @@ use Prim.Native.Nat.{ℕ, _+_, _-_, _*_, _≤_, _<_}
 use native.Mathlib.Omega.{arith}
 use borrow.Author.Tests.{leb-true}
 use lib.Dec.{leb, eqb}
-use lib.ListN.{length}
+use lib.ListN.{length, getD, set}
+use Rattle.laws.specs.Grid.{cellIndex}
+use Rattle.laws.proofs.Grid.{cell-below}
 use Rattle.laws.proofs.Cases.{and-true}
 use Rattle.torus.specs.Ring.{offset}
 use Rattle.torus.proofs.Ring.{offset-below}
@@ -20,12 +22,15 @@ use Rattle.state.specs.declared.Register.the-variants.{Empty, Packet}
 use Rattle.state.specs.Layout.{registerSize, routerSize, flowSize, flowPlace}
 use Rattle.state.specs.State.{tallyAt, cellAt}
 use Rattle.state.specs.Words.{flowOf}
-use Rattle.state.specs.Read.{sxIn, syIn, countIn, clockIn, flowIn, registerIn, routerIn, stateOf}
+use Rattle.state.specs.Read.{sxIn, syIn, countIn, clockIn, flowIn, registerIn, routerIn, planIn, stateOf}
 use Rattle.state.specs.Forms.{registerFits}
 use Rattle.state.proofs.Forms.{HeaderFacts, FlowFacts, TallyFacts, PacketFacts, StateFacts, packet-facts}
 use Rattle.state.proofs.View.{view-flow, view-tally, view-cell}
 use Rattle.state.proofs.Words.{router-below}
+use Rattle.cycle.specs.Entry.{enters}
+use Rattle.cycle.specs.Walk.{entrant, Entrants}
 use Rattle.cycle.specs.Bounds.{deflectionsOf}
+use Rattle.cycle.proofs.Entrant.{xsOf, ysOf, entrants-mark}
 
 module _ (w : List ℕ) (s : StateFacts w) where
   -- a router's registers lie in the memory
@@ -42,6 +47,34 @@ module _ (w : List ℕ) (s : StateFacts w) where
   pub tally-ok : (f : ℕ) → f < countIn w → TallyFacts (clockIn w) (flowAt ((stateOf w) .plan) f) (tallyAt (stateOf w) f)
   unfolding stateOf
   tally-ok f h = rw (view-tally w f h, view-flow w f h) (s .flow f h .tally)
+
+  -- a router has a place among the entrants
+  pub entrant-fits : (n : ℕ) (l : List ℕ) → Entrants (stateOf w) n l → (x y : ℕ) → x < sxIn w → y < syIn w → cellIndex (sxIn w) x y < length l
+  unfolding stateOf planIn
+  entrant-fits n l e x y h k =
+      let room = e .room in
+      omega (arith, cell-below (sxIn w) (syIn w) x y h k)
+
+  pub entrant-found : (n : ℕ) (l : List ℕ) → Entrants (stateOf w) n l → (x y : ℕ) → x < sxIn w → y < syIn w
+      → getD l (cellIndex (sxIn w) x y) 0 ≡ entrant (stateOf w) x y n
+  unfolding stateOf planIn
+  entrant-found n l e x y h k = e .at x y h k
+
+  -- the place of flow f's client among the entrants
+  module _ (f : ℕ) (below : f < countIn w) (l : List ℕ) (e : Entrants (stateOf w) f l)
+      (φ : Flow) (flow : φ ≡ flowAt ((stateOf w) .plan) f) (i : ℕ) (index : i ≡ cellIndex (sxIn w) (φ .xs) (φ .ys)) where
+    client : i ≡ cellIndex (sxIn w) (xsOf (stateOf w) f) (ysOf (stateOf w) f)
+    client = index ∙ rw flow
+
+    pub client-fits : i < length l
+    client-fits = rw client (entrant-fits f l e _ _ (flow-ok f below .xs-on) (flow-ok f below .ys-on))
+
+    pub client-found : getD l i 0 ≡ entrant (stateOf w) (xsOf (stateOf w) f) (ysOf (stateOf w) f) f
+    client-found = rw client (entrant-found f l e _ _ (flow-ok f below .xs-on) (flow-ok f below .ys-on))
+
+    pub client-marked : enters (stateOf w) f ≡ true → Entrants (stateOf w) (f + 1) (set l i (f + 1))
+    unfolding stateOf planIn
+    client-marked yes′ = rw client (entrants-mark (stateOf w) f l (flow-ok f below .xs-on) (flow-ok f below .ys-on) yes′ e)
 
   -- the flow of a register's packet is one of the plan
   flow-below : (place : Place) (at : ℕ) → registerFits w place at ≡ true → flowOf (registerIn w at) < countIn w

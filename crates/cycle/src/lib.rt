@@ -16,8 +16,8 @@ ghost use Rattle.state.specs.Words.{flowOf};
 ghost use Rattle.state.specs.Read.{sxIn, syIn, countIn, routerIn, stateOf};
 ghost use Rattle.state.proofs.Forms.{StateFacts};
 ghost use Rattle.cycle.specs.Router.{isEmpty, turnsSouth, atHome, deflected, firstOf};
-ghost use Rattle.cycle.specs.Entry.{ready};
-ghost use Rattle.cycle.specs.Walk.{openFor, tallyAfter};
+ghost use Rattle.cycle.specs.Entry.{ready, enters};
+ghost use Rattle.cycle.specs.Walk.{openFor, tallyAfter, Entrants};
 ghost use Rattle.cycle.specs.Bounds.{deflectionsOf};
 
 fn is_empty(r: Register) -> bool
@@ -235,4 +235,24 @@ fn tally_after(flow: Flow, t: Tally, enters: bool) -> Tally
         entered: t.entered,
         waiting: t.waiting,
     }
+}
+
+// Whether flow f enters, with the entrants of the flows below it; if it does, it is its client's entrant.
+fn enter(state: &[u32], f: u32, entrants: &mut [u32]) -> bool
+    requires { ⌜ StateFacts (now state) ⌝ }
+    requires { ⌜ f < countIn (now state) ⌝ }
+    requires { ⌜ Entrants (stateOf (now state)) f (now entrants) ⌝ }
+    ensures { λ r. ⌜ r ≡ enters (stateOf (now (state .entry))) f ⌝ }
+    ensures { λ _. ⌜ Entrants (stateOf (now (state .entry))) (f + 1) (now (entrants .exit)) ⌝ }
+{
+    let flow = flow_at(state, f);
+    let client = router_index(state[0], flow.xs, flow.ys);
+    if entrants[client] != 0 {
+        return false;
+    }
+    if !ready(state, f) {
+        return false;
+    }
+    entrants[client] = f + 1;
+    true
 }
