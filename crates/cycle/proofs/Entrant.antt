@@ -6,7 +6,7 @@ use Prim.Native.Nat.{ℕ, zero, suc, _+_, _-_, _*_, _≤_, _<_}
 use native.Mathlib.Decide.{ℕ-discrete}
 use native.Mathlib.Numerals.{add-one}
 use native.Mathlib.Omega.{arith}
-use borrow.Author.Tests.{eq-eqb, ne-eqb, eqb-true}
+use borrow.Author.Tests.{eq-eqb, ne-eqb, eqb-true, ltb-true}
 use lib.Dec.{eqb}
 use mathlib.Core.List.{List}
 use lib.ListN.{length, getD, set, length-set}
@@ -21,10 +21,12 @@ use Rattle.flow.specs.Offsets.{portOf, sameClient}
 use Rattle.flow.specs.Plan.{flowAt}
 use Rattle.state.specs.declared.Register.{Register}
 use Rattle.state.specs.declared.Register.the-variants.{Empty, Packet}
-use Rattle.state.specs.State.{State}
+use Rattle.state.specs.declared.Tally.{Tally}
+use Rattle.state.specs.State.{State, tallyAt}
 use Rattle.cycle.specs.Router.{firstOf}
 use Rattle.cycle.specs.Entry.{ready, enters, entering, uses, isPort, clientBelow, clientSends}
-use Rattle.cycle.specs.Walk.{isClient, entrant, sendsBy, Entrants}
+use Rattle.cycle.specs.Walk.{isClient, entrant, sendsBy, Entrants, tallyAfter}
+use Rattle.cycle.specs.Step.{nextTally}
 
 module _ (s : State) where
   abbrev pub xsOf : ℕ → ℕ
@@ -122,6 +124,18 @@ module _ (s : State) where
       turn zero true false en h = rw (h refl, and-false)
       turn (suc f) false r en h = rw (ne-eqb (suc f) 0 (λ z. omega arith)) (first-alone (sent f))
       turn (suc f) true r en h = rw (h refl, ne-eqb (suc f) 0 (λ z. omega arith), and-false) (first-alone (sent f))
+
+  -- who enters has a token and a waiting packet
+  pub enters-has : (f : ℕ) → enters s f ≡ true → (1 ≤ (tallyAt s f) .bucket .tokens) × (1 ≤ (tallyAt s f) .waiting)
+  unfolding enters ready
+  enters-has f yes′ =
+      let t : Tally = tallyAt s f in
+      let two = both _ _ (both _ _ (both _ _ yes′ .0) .0) in
+      (ltb-true 0 (t .bucket .tokens) (two .1), ltb-true 0 (t .waiting) (two .0))
+
+  pub next-tally : (f : ℕ) → nextTally s f ≡ tallyAfter (flowAt (s .plan) f) (tallyAt s f) (enters s f)
+  unfolding nextTally tallyAfter
+  next-tally f = refl
 
   -- before the first flow there is no entrant
   pub entrants-none : (l : List ℕ) → s .plan .sx * s .plan .sy ≤ length l → ((i : ℕ) → i < s .plan .sx * s .plan .sy → getD l i 0 ≡ 0) → Entrants s 0 l

@@ -10,14 +10,16 @@ ghost use Prim.Native.Nat.{_+_, _*_, _<_, _≤_};
 ghost use lib.ListN.{length};
 ghost use lib.Seq.{sets};
 ghost use Rattle.laws.specs.Grid.{cellIndex};
+ghost use Rattle.laws.specs.Turns.{turns};
 ghost use Rattle.flow.specs.Plan.{flowAt, FlowOk};
 ghost use Rattle.state.specs.State.{tallyAt, cellAt};
 ghost use Rattle.state.specs.Words.{flowOf};
-ghost use Rattle.state.specs.Read.{sxIn, syIn, countIn, routerIn, stateOf};
+ghost use Rattle.state.specs.Read.{sxIn, syIn, countIn, clockIn, routerIn, stateOf};
+ghost use Rattle.state.specs.Forms.{sizeIn};
 ghost use Rattle.state.proofs.Forms.{StateFacts};
 ghost use Rattle.cycle.specs.Router.{isEmpty, turnsSouth, atHome, deflected, firstOf};
 ghost use Rattle.cycle.specs.Entry.{ready, enters};
-ghost use Rattle.cycle.specs.Walk.{openFor, tallyAfter, Entrants};
+ghost use Rattle.cycle.specs.Walk.{openFor, tallyAfter, Entrants, tallied};
 ghost use Rattle.cycle.specs.Bounds.{deflectionsOf};
 
 fn is_empty(r: Register) -> bool
@@ -255,4 +257,35 @@ fn enter(state: &[u32], f: u32, entrants: &mut [u32]) -> bool
     }
     entrants[client] = f + 1;
     true
+}
+
+// The turn of flow f: who enters, and the flow's next tally.
+fn flow_turn(state: &[u32], f: u32, entrants: &mut [u32], next: &mut [u32])
+    requires { ⌜ StateFacts (now state) ⌝ }
+    requires { ⌜ (f < countIn (now state)) × (clockIn (now state) < 4294967295) ⌝ }
+    requires { ⌜ Entrants (stateOf (now state)) f (now entrants) ⌝ }
+    requires { ⌜ sizeIn (now state) ≤ length (now next) ⌝ }
+    ensures { λ _. ⌜ Entrants (stateOf (now (state .entry))) (f + 1) (now (entrants .exit)) ⌝ }
+    ensures { λ _. ⌜ now (next .exit) ≡ tallied (now (state .entry)) f (now (next .entry)) ⌝ }
+{
+    let flow = flow_at(state, f);
+    let tally = tally_at(state, f);
+    let enters = enter(state, f, entrants);
+    let after = tally_after(flow, tally, enters);
+    state::put_tally(next, 8 + 10 * (f as usize), after);
+}
+
+// One walk over the flows: the entrants of all clients, and every flow's next tally.
+fn walk_flows(state: &[u32], entrants: &mut [u32], next: &mut [u32])
+    requires { ⌜ StateFacts (now state) ⌝ }
+    requires { ⌜ clockIn (now state) < 4294967295 ⌝ }
+    requires { ⌜ Entrants (stateOf (now state)) 0 (now entrants) ⌝ }
+    requires { ⌜ sizeIn (now state) ≤ length (now next) ⌝ }
+    ensures { λ _. ⌜ Entrants (stateOf (now (state .entry))) (countIn (now (state .entry))) (now (entrants .exit)) ⌝ }
+    ensures { λ _. ⌜ now (next .exit) ≡ turns (countIn (now (state .entry))) (tallied (now (state .entry))) (now (next .entry)) ⌝ }
+{
+    let flows = state[2];
+    for f in 0..flows {
+        flow_turn(state, f, entrants, next);
+    }
 }
