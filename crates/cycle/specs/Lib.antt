@@ -6,3 +6,4 @@ pub mod Offer
 pub mod Calls
 pub mod Bounds
 pub mod Walk
+pub mod Sent

@@ -19,8 +19,16 @@ ghost use Rattle.state.specs.Forms.{sizeIn};
 ghost use Rattle.state.proofs.Forms.{StateFacts};
 ghost use Rattle.cycle.specs.Router.{isEmpty, turnsSouth, atHome, deflected, firstOf};
 ghost use Rattle.cycle.specs.Entry.{ready, enters};
-ghost use Rattle.cycle.specs.Walk.{openFor, tallyAfter, Entrants, tallied};
+ghost use Rattle.cycle.specs.Walk.{openFor, tallyAfter, entrant, Entrants, tallied};
+ghost use Rattle.cycle.specs.Sent.{sentBy, sentAt};
+ghost use Rattle.cycle.specs.Step.{exitWords};
 ghost use Rattle.cycle.specs.Bounds.{deflectionsOf};
+
+// What is sent by the two outputs of a router.
+struct Sent {
+    east: Register,
+    south: Register,
+}
 
 fn is_empty(r: Register) -> bool
     ensures { λ e. ⌜ e ≡ isEmpty r ⌝ }
@@ -287,5 +295,81 @@ fn walk_flows(state: &[u32], entrants: &mut [u32], next: &mut [u32])
     let flows = state[2];
     for f in 0..flows {
         flow_turn(state, f, entrants, next);
+    }
+}
+
+// What a client sends, by its entrant: the number + 1 of the flow that enters, or 0.
+fn client_sends(state: &[u32], who: u32) -> Sent
+    requires { ⌜ StateFacts (now state) ⌝ }
+    requires { ⌜ (who ≤ countIn (now state)) × (clockIn (now state) < 4294967295) ⌝ }
+    ensures { λ r. ⌜ r ≡ sentBy (stateOf (now (state .entry))) who ⌝ }
+{
+    let none = Register::Empty;
+    if who == 0 {
+        return Sent {
+            east: none,
+            south: none,
+        };
+    }
+    let f = who - 1;
+    let flow = flow_at(state, f);
+    let tally = tally_at(state, f);
+    let packet = Register::Packet {
+        flow: f,
+        serial: tally.entered + 1,
+        entry: state[3],
+        deflections: 0,
+    };
+    let port = flow.port(state[0]);
+    match port {
+        Port::East => Sent {
+            east: packet,
+            south: none,
+        },
+        Port::South => Sent {
+            east: none,
+            south: packet,
+        },
+    }
+}
+
+// What the router in column x and row y sends, with its client's entrant.
+fn router_sends(state: &[u32], x: u32, y: u32, who: u32) -> Sent
+    requires { ⌜ StateFacts (now state) ⌝ }
+    requires { ⌜ (x < sxIn (now state)) × ((y < syIn (now state)) × (clockIn (now state) < 4294967295)) ⌝ }
+    requires { ⌜ who ≡ entrant (stateOf (now state)) x y (countIn (now state)) ⌝ }
+    ensures { λ r. ⌜ r ≡ sentAt (stateOf (now (state .entry))) x y ⌝ }
+{
+    let cell = cell_at(state, x, y);
+    let west = cell.west;
+    let north = cell.north;
+    let turns = turns_south(state, x, west);
+    let client = client_sends(state, who);
+    let by_east = client.east;
+    let by_south = client.south;
+    let east = sent_east(turns, west, north, by_east);
+    let south = sent_south(turns, west, north, by_south);
+    Sent { east, south }
+}
+
+// Writes the five words of a packet that exits.
+fn put_exit(delivery: &mut [u32], at: usize, r: Register, clock: u32)
+    requires { ⌜ at + 5 ≤ length (now delivery) ⌝ }
+    ensures { λ _. ⌜ now (delivery .exit) ≡ sets (now (delivery .entry)) at (exitWords clock r) ⌝ }
+{
+    match r {
+        Register::Empty => {}
+        Register::Packet {
+            flow,
+            serial,
+            entry,
+            deflections,
+        } => {
+            delivery[at] = flow;
+            delivery[at + 1] = serial;
+            delivery[at + 2] = entry;
+            delivery[at + 3] = clock;
+            delivery[at + 4] = deflections;
+        }
     }
 }
