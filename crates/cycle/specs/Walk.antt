@@ -21,7 +21,7 @@ use Rattle.state.specs.declared.Tally.{Tally}
 use Rattle.state.specs.Layout.{registerSize, routerSize, flowPlace, numberSize}
 use Rattle.state.specs.State.{State, cellAt}
 use Rattle.state.specs.Words.{registerWords, tallyWords}
-use Rattle.state.specs.Read.{countIn, sxIn, syIn, stateOf}
+use Rattle.state.specs.Read.{sxIn, syIn, routerIn, stateOf}
 use Rattle.cycle.specs.Entry.{portOpen, ready, entering, isPort}
 use Rattle.cycle.specs.Step.{eastward, southward, exits, nextTally}
 
@@ -78,11 +78,18 @@ push base sx sy east south x y l =
 abbrev pub reaches : State → (x y : ℕ) → Register
 reaches s x y = cond (exits s x y) Empty (southward s x y)
 
--- the words l, after that router of the state with words w
+-- the words l, after the router in column x and row y of the state with words w has sent this E, or S
+unfoldable pub pushEast : (w : List ℕ) → (x y : ℕ) → Register → List ℕ → List ℕ
+pushEast w x y east l = sets l (routerIn w (next (sxIn w) x) y) (registerWords east)
+
+unfoldable pub pushSouth : (w : List ℕ) → (x y : ℕ) → Register → List ℕ → List ℕ
+pushSouth w x y south l = sets l (routerIn w x (next (syIn w) y) + registerSize) (registerWords south)
+
+-- after all that this router sends
 unfoldable pub pushed : (w : List ℕ) → (x y : ℕ) → List ℕ → List ℕ
 pushed w x y l =
     let s = stateOf w in
-    push (flowPlace (countIn w)) (sxIn w) (syIn w) (eastward s x y) (reaches s x y) x y l
+    pushSouth w x y (reaches s x y) (pushEast w x y (eastward s x y) l)
 
 -- after a row's routers, and after all
 unfoldable pub pushedRow : (w : List ℕ) → (y : ℕ) → List ℕ → List ℕ

@@ -6,12 +6,15 @@ use state::Register;
 use state::Tally;
 ghost use mathlib.Core.Path.{_≡_};
 ghost use mathlib.Core.Bool.{cond, true};
+ghost use mathlib.Core.List.{[]};
 ghost use Prim.Native.Nat.{_+_, _*_, _<_, _≤_};
 ghost use lib.ListN.{length};
 ghost use lib.Seq.{sets};
+ghost use Rattle.laws.specs.Count.{one};
 ghost use Rattle.laws.specs.Grid.{cellIndex};
 ghost use Rattle.laws.specs.Turns.{turns};
 ghost use Rattle.flow.specs.Plan.{flowAt, FlowOk};
+ghost use Rattle.state.specs.declared.Register.the-variants.{Empty};
 ghost use Rattle.state.specs.State.{tallyAt, cellAt};
 ghost use Rattle.state.specs.Words.{flowOf};
 ghost use Rattle.state.specs.Read.{sxIn, syIn, countIn, clockIn, routerIn, stateOf};
@@ -19,9 +22,9 @@ ghost use Rattle.state.specs.Forms.{sizeIn};
 ghost use Rattle.state.proofs.Forms.{StateFacts};
 ghost use Rattle.cycle.specs.Router.{isEmpty, turnsSouth, atHome, deflected, firstOf};
 ghost use Rattle.cycle.specs.Entry.{ready, enters};
-ghost use Rattle.cycle.specs.Walk.{openFor, tallyAfter, entrant, Entrants, tallied};
+ghost use Rattle.cycle.specs.Walk.{openFor, tallyAfter, entrant, Entrants, tallied, pushEast, pushSouth, pushed};
 ghost use Rattle.cycle.specs.Sent.{sentBy, sentAt};
-ghost use Rattle.cycle.specs.Step.{exitWords};
+ghost use Rattle.cycle.specs.Step.{exits, exitWords, delivered};
 ghost use Rattle.cycle.specs.Bounds.{deflectionsOf};
 
 // What is sent by the two outputs of a router.
@@ -372,4 +375,88 @@ fn put_exit(delivery: &mut [u32], at: usize, r: Register, clock: u32)
             delivery[at + 4] = deflections;
         }
     }
+}
+
+// What the router in column x and row y sends, with the entrants of all clients.
+fn sent_at(state: &[u32], x: u32, y: u32, entrants: &[u32]) -> Sent
+    requires { ⌜ StateFacts (now state) ⌝ }
+    requires { ⌜ (x < sxIn (now state)) × ((y < syIn (now state)) × (clockIn (now state) < 4294967295)) ⌝ }
+    requires { ⌜ Entrants (stateOf (now state)) (countIn (now state)) (now entrants) ⌝ }
+    ensures { λ r. ⌜ r ≡ sentAt (stateOf (now (state .entry))) x y ⌝ }
+{
+    let client = router_index(state[0], x, y);
+    router_sends(state, x, y, entrants[client])
+}
+
+// Writes what goes E to the W register to the east.
+fn push_east(state: &[u32], x: u32, y: u32, east: Register, next: &mut [u32])
+    requires { ⌜ StateFacts (now state) ⌝ }
+    requires { ⌜ (x < sxIn (now state)) × (y < syIn (now state)) ⌝ }
+    requires { ⌜ (flowOf east < countIn (now state)) × (sizeIn (now state) ≤ length (now next)) ⌝ }
+    ensures { λ _. ⌜ now (next .exit) ≡ pushEast (now (state .entry)) x y east (now (next .entry)) ⌝ }
+{
+    let at = router_place(state, torus::next(state[0], x), y);
+    state::put_register(next, at, east);
+}
+
+// Writes what goes S, and doesn't exit, to the N register to the south.
+fn push_south(state: &[u32], x: u32, y: u32, south: Register, next: &mut [u32])
+    requires { ⌜ StateFacts (now state) ⌝ }
+    requires { ⌜ (x < sxIn (now state)) × (y < syIn (now state)) ⌝ }
+    requires { ⌜ (flowOf south < countIn (now state)) × (sizeIn (now state) ≤ length (now next)) ⌝ }
+    ensures { λ _. ⌜ now (next .exit) ≡ pushSouth (now (state .entry)) x y south (now (next .entry)) ⌝ }
+{
+    let at = router_place(state, x, torus::next(state[1], y));
+    state::put_register(next, at + 4, south);
+}
+
+// What is left of a packet that goes S.
+fn unless_exits(exits: bool, south: Register) -> Register
+    ensures { λ r. ⌜ r ≡ cond exits Empty south ⌝ }
+{
+    if exits {
+        return Register::Empty;
+    }
+    south
+}
+
+// Writes the words of a packet that exits behind those of `count` exits, and counts it.
+fn deliver(exits: bool, south: Register, clock: u32, delivery: &mut [u32], count: u32) -> u32
+    requires { ⌜ (count < 256) × (5 * count + 5 ≤ length (now delivery)) ⌝ }
+    ensures { λ r. ⌜ r ≡ count + one exits ⌝ }
+    ensures { λ _. ⌜ now (delivery .exit) ≡ sets (now (delivery .entry)) (5 * count) (cond exits (exitWords clock south) []) ⌝ }
+{
+    if exits {
+        put_exit(delivery, 5 * (count as usize), south, clock);
+        return count + 1;
+    }
+    count
+}
+
+// The router in column x and row y: what it sends goes to its neighbours' next registers, or is delivered after `count` exits.
+fn route(
+    state: &[u32],
+    x: u32,
+    y: u32,
+    entrants: &[u32],
+    next: &mut [u32],
+    delivery: &mut [u32],
+    count: u32,
+) -> u32
+    requires { ⌜ StateFacts (now state) ⌝ }
+    requires { ⌜ (x < sxIn (now state)) × ((y < syIn (now state)) × (clockIn (now state) < 4294967295)) ⌝ }
+    requires { ⌜ Entrants (stateOf (now state)) (countIn (now state)) (now entrants) ⌝ }
+    requires { ⌜ sizeIn (now state) ≤ length (now next) ⌝ }
+    requires { ⌜ (count < 256) × (5 * count + 5 ≤ length (now delivery)) ⌝ }
+    ensures { λ _. ⌜ now (next .exit) ≡ pushed (now (state .entry)) x y (now (next .entry)) ⌝ }
+    ensures { λ r. ⌜ r ≡ count + one (exits (stateOf (now (state .entry))) x y) ⌝ }
+    ensures { λ _. ⌜ now (delivery .exit) ≡ sets (now (delivery .entry)) (5 * count) (delivered (stateOf (now (state .entry))) x y) ⌝ }
+{
+    let sent = sent_at(state, x, y, entrants);
+    let east = sent.east;
+    let south = sent.south;
+    let exits = at_home(state, x, y, south);
+    push_east(state, x, y, east, next);
+    push_south(state, x, y, unless_exits(exits, south), next);
+    deliver(exits, south, state[3], delivery, count)
 }
