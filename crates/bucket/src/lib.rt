@@ -1,7 +1,7 @@
 // The regulator of a flow: a token bucket by value. Rests on laws.
 ghost use mathlib.Core.Path.{_≡_};
 ghost use Prim.Native.Nat.{_+_, _<_, _≤_};
-ghost use Rattle.bucket.specs.Regulator.{afterSpend, afterCount};
+ghost use Rattle.bucket.specs.Regulator.{afterSpend, afterCount, bucketFits};
 ghost use Rattle.bucket.specs.Curve.{curve};
 
 pub struct Bucket {
@@ -40,6 +40,22 @@ impl Bucket {
             };
         }
         self
+    }
+
+    // What words that form a state have of a bucket.
+    pub fn fits(self, burst: u32, period: u32) -> bool
+        ensures { λ r. ⌜ r ≡ bucketFits burst period self ⌝ }
+    {
+        if burst < self.tokens {
+            return false;
+        }
+        if period <= self.count {
+            return false;
+        }
+        if self.tokens == burst {
+            return self.count == 0;
+        }
+        true
     }
 }
 

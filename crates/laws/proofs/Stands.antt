@@ -33,6 +33,22 @@ module _ {A : Type 0} where
   join-add n zero f = rw (add-zero, append-nil)
   join-add n (suc m) f = rw (add-suc, join-add n m f, append-assoc)
 
+  -- two runs of stores, one behind the other
+  pub sets-append : (l : List A) (i : ℕ) (a b : List A) → sets (sets l i a) (i + length a) b ≡ sets l i (a ++ b)
+  sets-append l i [] b = rw add-zero
+  sets-append l i (x ∷ a) b =
+      let e : i + suc (length a) ≡ suc i + length a = omega arith in
+      rw e (sets-append (set l i x) (suc i) a b)
+
+  -- four stores
+  pub sets-four : (l : List A) (at : ℕ) (a b c d : A)
+      → set (set (set (set l at a) (at + 1) b) (at + 2) c) (at + 3) d ≡ sets l at (a ∷ b ∷ c ∷ d ∷ [])
+  sets-four l at a b c d =
+      let one : at + 1 ≡ suc at = omega arith in
+      let two : at + 2 ≡ suc (suc at) = omega arith in
+      let three : at + 3 ≡ suc (suc (suc at)) = omega arith in
+      rw (one, two, three)
+
 module _ {A : Type 0} (d : A) where
   -- a list stands in itself
   pub stands-whole : (l : List A) → Stands d l 0 l

@@ -83,7 +83,7 @@ fn is_tagged(file: &[u8]) -> bool
 }
 
 // A size of the torus is 1..16.
-fn size_ok(s: u32) -> bool
+pub fn size_ok(s: u32) -> bool
     ensures { λ r. ⌜ r ≡ sizeOk s ⌝ }
 {
     if s < 1 {

@@ -3,15 +3,18 @@ use mathlib.Core.Bool.{Bool, true, false, cond, not, _&&_}
 use mathlib.Core.List.{List}
 use mathlib.Core.Path.{_≡_, refl, sym, ap, _∙_}
 use Prim.Native.Nat.{ℕ, _+_, _-_, _*_, _≤_, _<_}
+use native.Mathlib.Nat.{mul-le-mul}
 use native.Mathlib.Omega.{arith}
 use borrow.Author.Tests.{ltb-true, ltb-false, leb-true, eqb-true, eq-eqb, not-false}
 use lib.Dec.{ltb, leb, eqb}
 use lib.ListN.{length, getD}
 use Rattle.laws.specs.Bounded.{allBelow}
 use Rattle.laws.proofs.Cases.{and-true, passed}
+use Rattle.laws.specs.Grid.{cellIndex}
 use Rattle.laws.proofs.Bounded.{all-at}
+use Rattle.laws.proofs.Grid.{cell-below}
 use Rattle.flow.specs.declared.Flow.{Flow}
-use Rattle.flow.specs.Plan.{FlowOk, onTorus, mostFlows, mostPeriod, mostBurst}
+use Rattle.flow.specs.Plan.{FlowOk, onTorus, mostSize, mostFlows, mostPeriod, mostBurst}
 use Rattle.bucket.specs.declared.Bucket.{Bucket}
 use Rattle.bucket.specs.Regulator.{bucketFits}
 use Rattle.plan.specs.Refusals.{sizeOk}
@@ -24,7 +27,7 @@ use Rattle.state.specs.declared.Register.the-variants.{Empty, Packet}
 use Rattle.state.specs.declared.Tally.{Tally}
 use Rattle.state.specs.Layout.{headerSize, registerSize, flowPlace}
 use Rattle.state.specs.Read.{sxIn, syIn, countIn, clockIn, flowIn, tallyIn, registerIn, routerIn}
-use Rattle.state.specs.Forms.{headerFits, numbersFit, tallyFits, flowFits, contentsFit, registerFits, cellFits, restFits, sizeIn, stateNumber}
+use Rattle.state.specs.Forms.{headerFits, numbersFit, tallyFits, flowFits, contentsFit, registerFits, cellFits, restFits, sizeIn, FlowsFit, stateNumber}
 
 -- the first eight words
 pub record HeaderFacts (w : List ℕ) : Type 0 where
@@ -147,6 +150,17 @@ packet-facts w place at e flow serial entry deflections r =
       entry-before = ltb-true _ _ (placed .0);
       in-place = placed .1;
     }
+
+-- there are at most 16×16 routers
+pub area-most : (w : List ℕ) → HeaderFacts w → sxIn w * syIn w ≤ mostSize * mostSize
+area-most w h = mul-le-mul (h .sx-ok .most) (h .sy-ok .most)
+
+pub cell-most : (w : List ℕ) → HeaderFacts w → (x y : ℕ) → x < sxIn w → y < syIn w → cellIndex (sxIn w) x y < mostSize * mostSize
+cell-most w h x y l m = omega (arith, area-most w h, cell-below (sxIn w) (syIn w) x y l m)
+
+-- a flow of words whose header and flows fit
+pub fit-facts : (w : List ℕ) → FlowsFit w → (f : ℕ) → f < countIn w → FlowFacts w f
+fit-facts w h f l = flow-facts w f (all-at (flowFits w) (countIn w) (h .flows) f l)
 
 -- what the tests of a call on a state leave
 pub state-facts : (w : List ℕ) → stateNumber w ≡ 0 → StateFacts w

@@ -4,3 +4,4 @@ pub mod Read
 pub mod View
 pub mod Forms
 pub mod Again
+pub mod Over

@@ -1,7 +1,8 @@
 -- When words form a state, and what a call on a state refuses first: 8 and 9 (01, State memory; When a call says no).
-use mathlib.Core.Bool.{Bool, cond, not, _&&_}
+use mathlib.Core.Bool.{Bool, true, cond, not, _&&_}
 use mathlib.Core.List.{List}
-use Prim.Native.Nat.{ℕ, _+_, _-_}
+use mathlib.Core.Path.{_≡_}
+use Prim.Native.Nat.{ℕ, _+_, _-_, _≤_}
 use lib.Dec.{ltb, leb, eqb}
 use lib.ListN.{length, getD}
 use Rattle.laws.specs.Bounded.{allBelow}
@@ -14,6 +15,8 @@ use Rattle.book.specs.Calls.{mostWaiting}
 use Rattle.book.specs.InPlace.{inPlace}
 use Rattle.state.specs.declared.Register.{Register}
 use Rattle.state.specs.declared.Register.the-variants.{Empty, Packet}
+use Rattle.state.specs.declared.Input.{Input}
+use Rattle.state.specs.declared.Input.the-variants.{West, North}
 use Rattle.state.specs.Layout.{headerSize, registerSize, flowPlace, stateSize}
 use Rattle.state.specs.declared.Tally.{Tally}
 use Rattle.state.specs.Read.{sxIn, syIn, countIn, clockIn, flowIn, tallyIn, registerIn, routerIn}
@@ -42,6 +45,11 @@ unfoldable pub flowFits : List ℕ → ℕ → Bool
 flowFits w f =
     let at = flowPlace f in
     numbersFit (sxIn w) (syIn w) (flowIn w at) && tallyFits (clockIn w) (flowIn w at) (tallyIn w at)
+
+-- the link register that feeds an input of the router in column x and row y
+abbrev pub placeOf : Input → (x y : ℕ) → Place
+placeOf West x y = W x y
+placeOf North x y = N x y
 
 -- an empty register is four zeros; a packet is of a flow below F, its serial is 1..entered, its entry is before the clock,
 -- and it is in place
@@ -72,6 +80,12 @@ restFits w =
 -- the size that the header asks for
 abbrev pub sizeIn : List ℕ → ℕ
 sizeIn w = stateSize (countIn w) (sxIn w) (syIn w)
+
+-- the header and every flow fit, and the words are as many as the header asks for
+pub record FlowsFit (w : List ℕ) : Type 0 where
+  pub header : headerFits w ≡ true
+  pub long : sizeIn w ≤ length w
+  pub flows : allBelow (countIn w) (flowFits w) ≡ true
 
 -- 8 under eight words; 9 for the first eight words; 8 for the whole size; 9 for the rest; 0 for words that form a state
 unfoldable pub stateNumber : List ℕ → ℕ

@@ -1,4 +1,4 @@
-// State memory: its words, when they form a state, reset, and writing a plan back. Rests on plan, bucket and book.
+// State memory: its words, read and written by value. Rests on flow and bucket.
 use bucket::Bucket;
 use flow::Flow;
 ghost use mathlib.Core.Path.{_≡_};
@@ -19,6 +19,12 @@ pub enum Register {
         entry: u32,
         deflections: u32,
     },
+}
+
+// The input of a router that a link register feeds.
+pub enum Input {
+    West,
+    North,
 }
 
 // The link registers of a router.
@@ -92,7 +98,8 @@ pub fn cell_in(w: &[u32], at: usize) -> Cell
     Cell { west, north }
 }
 
-fn put_four(w: &mut [u32], at: usize, a: u32, b: u32, c: u32, d: u32)
+// Writes four words at a place.
+pub fn put_four(w: &mut [u32], at: usize, a: u32, b: u32, c: u32, d: u32)
     requires { ⌜ at + 4 ≤ length (now w) ⌝ }
     ensures { λ _. ⌜ now (w .exit) ≡ sets (now (w .entry)) at (a ∷ b ∷ c ∷ d ∷ []) ⌝ }
 {
@@ -116,6 +123,16 @@ pub fn put_register(w: &mut [u32], at: usize, r: Register)
             deflections,
         } => put_four(w, at, flow + 1, serial, entry, deflections),
     }
+}
+
+// Writes a flow's six plan numbers at a place.
+pub fn put_numbers(w: &mut [u32], at: usize, f: Flow)
+    requires { ⌜ at + flowSize ≤ length (now w) ⌝ }
+    ensures { λ _. ⌜ now (w .exit) ≡ sets (now (w .entry)) at (numberWords f) ⌝ }
+{
+    put_four(w, at, f.xs, f.ys, f.xd, f.yd);
+    w[at + 4] = f.period;
+    w[at + 5] = f.burst;
 }
 
 // Writes a flow's bucket, entered and waiting, behind its plan numbers.

@@ -1,7 +1,7 @@
 // The torus: offsets and neighbours along one row or column. Rests on laws.
 ghost use mathlib.Core.Path.{_≡_};
 ghost use Prim.Native.Nat.{_<_, _≤_};
-ghost use Rattle.torus.specs.Ring.{offset, next};
+ghost use Rattle.torus.specs.Ring.{offset, next, lap};
 
 // How far `to` lies after `from`, going round: 01's (to − from) mod size.
 pub fn offset(size: u32, from: u32, to: u32) -> u32
@@ -13,6 +13,15 @@ pub fn offset(size: u32, from: u32, to: u32) -> u32
     } else {
         size - (from - to)
     }
+}
+
+// The same, read as the size if it is 0.
+pub fn lap(size: u32, from: u32, to: u32) -> u32
+    requires { ⌜ (from < size) × (to < size) ⌝ }
+    ensures { λ r. ⌜ r ≡ lap size from to ⌝ }
+{
+    let d = offset(size, from, to);
+    if d == 0 { size } else { d }
 }
 
 // The neighbour to the east of a column, or to the south of a row.

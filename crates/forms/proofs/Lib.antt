@@ -1,0 +1,2 @@
+-- The laws behind the check of a state's words.
+pub mod InPlace

@@ -1,0 +1,326 @@
+// When words form a state, and what a call on a state refuses first: 8 and 9. Rests on state.
+use flow::Flow;
+use state::Input;
+use state::Register;
+use state::Tally;
+ghost use mathlib.Core.Bool.{true};
+ghost use mathlib.Core.Path.{_≡_};
+ghost use Prim.Native.Nat.{_+_, _≤_, _<_};
+ghost use lib.Dec.{eqb};
+ghost use lib.ListN.{length, getD};
+ghost use Rattle.laws.specs.Bounded.{allBelow};
+ghost use Rattle.flow.specs.Plan.{FlowOk, mostSize};
+ghost use Rattle.book.specs.InPlace.{inNorth, inFirstRow, inLaterRow, inPlace};
+ghost use Rattle.state.specs.declared.Register.the-variants.{Packet};
+ghost use Rattle.state.specs.Layout.{headerSize, flowSize, registerSize, flowPlace};
+ghost use Rattle.state.specs.Read.{sxIn, syIn, countIn, routerIn};
+ghost use Rattle.state.specs.Forms.{placeOf, headerFits, numbersFit, tallyFits, flowFits, FlowsFit, contentsFit, registerFits, cellFits, restFits, sizeIn, stateNumber};
+
+// Some words from a place on are 0.
+fn are_zero(w: &[u32], at: usize, count: usize) -> bool
+    requires { ⌜ at + count ≤ length (now w) ⌝ }
+    ensures { λ r. ⌜ r ≡ allBelow count (λ k. eqb (getD (now (w .entry)) (at + k) 0) 0) ⌝ }
+{
+    for k in 0..count {
+        if w[at + k] != 0 {
+            return false;
+        }
+    }
+    true
+}
+
+// The first eight words are those of a state.
+fn header_fits(w: &[u32]) -> bool
+    requires { ⌜ headerSize ≤ length (now w) ⌝ }
+    ensures { λ r. ⌜ r ≡ headerFits (now (w .entry)) ⌝ }
+{
+    if !plan::size_ok(w[0]) {
+        return false;
+    }
+    if !plan::size_ok(w[1]) {
+        return false;
+    }
+    if w[2] < 1 {
+        return false;
+    }
+    if 256 < w[2] {
+        return false;
+    }
+    are_zero(w, 4, 4)
+}
+
+// A flow's plan numbers lie in their ranges.
+fn numbers_fit(sx: u32, sy: u32, f: Flow) -> bool
+    ensures { λ r. ⌜ r ≡ numbersFit sx sy f ⌝ }
+{
+    if !f.on_torus(sx, sy) {
+        return false;
+    }
+    if f.period < 1 {
+        return false;
+    }
+    if 65535 < f.period {
+        return false;
+    }
+    if f.burst < 1 {
+        return false;
+    }
+    f.burst <= 255
+}
+
+// A flow's bucket, entered and waiting are those of a state.
+fn tally_fits(clock: u32, f: Flow, t: Tally) -> bool
+    ensures { λ r. ⌜ r ≡ tallyFits clock f t ⌝ }
+{
+    let b = t.bucket;
+    if !b.fits(f.burst, f.period) {
+        return false;
+    }
+    if 65535 < t.waiting {
+        return false;
+    }
+    t.entered <= clock
+}
+
+// The words of flow f are those of a state.
+fn flow_fits(w: &[u32], f: usize) -> bool
+    requires { ⌜ flowPlace f + flowSize ≤ length (now w) ⌝ }
+    ensures { λ r. ⌜ r ≡ flowFits (now (w .entry)) f ⌝ }
+{
+    let at = 8 + 10 * f;
+    let flow = state::flow_in(w, at);
+    if !numbers_fit(w[0], w[1], flow) {
+        return false;
+    }
+    tally_fits(w[3], flow, state::tally_in(w, at))
+}
+
+// Every flow's words are those of a state.
+fn flows_fit(w: &[u32], count: usize) -> bool
+    requires { ⌜ flowPlace count ≤ length (now w) ⌝ }
+    ensures { λ r. ⌜ r ≡ allBelow count (flowFits (now (w .entry))) ⌝ }
+{
+    for f in 0..count {
+        if !flow_fits(w, f) {
+            return false;
+        }
+    }
+    true
+}
+
+// In N of column x, r rows south of the source's row.
+fn in_north(sx: u32, sy: u32, f: Flow, x: u32, r: u32, d: u32, e: u32) -> bool
+    requires { ⌜ (FlowOk sx sy f) × ((sx ≤ mostSize) × (r ≤ mostSize)) ⌝ }
+    ensures { λ b. ⌜ b ≡ inNorth sx sy f x r d e ⌝ }
+{
+    if x != f.xd {
+        return false;
+    }
+    if r < 1 {
+        return false;
+    }
+    if f.offset_y(sy) < r {
+        return false;
+    }
+    if r - 1 < d {
+        return false;
+    }
+    e == f.offset_x(sx) + r + d * sx
+}
+
+// In W of column x, in the source's row.
+fn in_first_row(sx: u32, sy: u32, f: Flow, x: u32, d: u32, e: u32) -> bool
+    requires { ⌜ (FlowOk sx sy f) × (x < sx) ⌝ }
+    ensures { λ b. ⌜ b ≡ inFirstRow sx f x d e ⌝ }
+{
+    let j = torus::offset(sx, f.xs, x);
+    if j < 1 {
+        return false;
+    }
+    if f.offset_x(sx) < j {
+        return false;
+    }
+    if d != 0 {
+        return false;
+    }
+    e == j
+}
+
+// In W of column x, r rows south of the source's row.
+fn in_later_row(sx: u32, sy: u32, f: Flow, x: u32, r: u32, d: u32, e: u32) -> bool
+    requires { ⌜ (FlowOk sx sy f) × ((x < sx) × ((sx ≤ mostSize) × (r ≤ mostSize))) ⌝ }
+    ensures { λ b. ⌜ b ≡ inLaterRow sx sy f x r d e ⌝ }
+{
+    if f.offset_y(sy) < r {
+        return false;
+    }
+    if d < 1 {
+        return false;
+    }
+    if r < d {
+        return false;
+    }
+    e == f.offset_x(sx) + r + (d - 1) * sx + torus::lap(sx, f.xd, x)
+}
+
+// A packet of flow f may be at this input of the router, e cycles after its entry and with d deflections.
+fn in_place(sx: u32, sy: u32, f: Flow, input: Input, x: u32, y: u32, d: u32, e: u32) -> bool
+    requires { ⌜ (FlowOk sx sy f) × ((x < sx) × (y < sy)) ⌝ }
+    requires { ⌜ (sx ≤ mostSize) × (sy ≤ mostSize) ⌝ }
+    ensures { λ b. ⌜ b ≡ inPlace sx sy f (placeOf input x y) d e ⌝ }
+{
+    if e < 1 {
+        return false;
+    }
+    let r = torus::offset(sy, f.ys, y);
+    match input {
+        Input::North => in_north(sx, sy, f, x, r, d, e),
+        Input::West => {
+            if r == 0 {
+                return in_first_row(sx, sy, f, x, d, e);
+            }
+            in_later_row(sx, sy, f, x, r, d, e)
+        }
+    }
+}
+
+// The packet of a register is that of a state.
+fn packet_fits(
+    w: &[u32],
+    input: Input,
+    x: u32,
+    y: u32,
+    flow: u32,
+    serial: u32,
+    entry: u32,
+    d: u32,
+) -> bool
+    requires { ⌜ FlowsFit (now w) ⌝ }
+    requires { ⌜ (x < sxIn (now w)) × (y < syIn (now w)) ⌝ }
+    ensures { λ r. ⌜ r ≡ contentsFit (now (w .entry)) (placeOf input x y) 0 (Packet flow serial entry d) ⌝ }
+{
+    if w[2] <= flow {
+        return false;
+    }
+    if serial < 1 {
+        return false;
+    }
+    let at = 8 + 10 * (flow as usize);
+    if w[at + 8] < serial {
+        return false;
+    }
+    let clock = w[3];
+    if clock <= entry {
+        return false;
+    }
+    in_place(
+        w[0],
+        w[1],
+        state::flow_in(w, at),
+        input,
+        x,
+        y,
+        d,
+        clock - entry,
+    )
+}
+
+// The four words of a register are those of a state.
+fn register_fits(w: &[u32], input: Input, x: u32, y: u32, at: usize) -> bool
+    requires { ⌜ FlowsFit (now w) ⌝ }
+    requires { ⌜ (x < sxIn (now w)) × ((y < syIn (now w)) × (at + registerSize ≤ length (now w))) ⌝ }
+    ensures { λ r. ⌜ r ≡ registerFits (now (w .entry)) (placeOf input x y) at ⌝ }
+{
+    match state::register_at(w, at) {
+        Register::Empty => are_zero(w, at, 4),
+        Register::Packet {
+            flow,
+            serial,
+            entry,
+            deflections,
+        } => packet_fits(w, input, x, y, flow, serial, entry, deflections),
+    }
+}
+
+// Where the registers of the router in column x and row y stand.
+pub fn router_at(w: &[u32], x: u32, y: u32) -> usize
+    requires { ⌜ (headerSize ≤ length (now w)) × (headerFits (now w) ≡ true) ⌝ }
+    requires { ⌜ (x < sxIn (now w)) × (y < syIn (now w)) ⌝ }
+    ensures { λ r. ⌜ r ≡ routerIn (now (w .entry)) x y ⌝ }
+{
+    let cell = y * w[0] + x;
+    8 + 10 * (w[2] as usize) + 8 * (cell as usize)
+}
+
+// Both registers of a router are those of a state.
+fn cell_fits(w: &[u32], x: u32, y: u32) -> bool
+    requires { ⌜ FlowsFit (now w) ⌝ }
+    requires { ⌜ (x < sxIn (now w)) × (y < syIn (now w)) ⌝ }
+    ensures { λ r. ⌜ r ≡ cellFits (now (w .entry)) x y ⌝ }
+{
+    let at = router_at(w, x, y);
+    if !register_fits(w, Input::West, x, y, at) {
+        return false;
+    }
+    register_fits(w, Input::North, x, y, at + 4)
+}
+
+// All registers of a row are those of a state.
+fn row_fits(w: &[u32], y: u32) -> bool
+    requires { ⌜ FlowsFit (now w) ⌝ }
+    requires { ⌜ y < syIn (now w) ⌝ }
+    ensures { λ r. ⌜ r ≡ allBelow (sxIn (now (w .entry))) (λ x. cellFits (now (w .entry)) x y) ⌝ }
+{
+    let sx = w[0];
+    for x in 0..sx {
+        if !cell_fits(w, x, y) {
+            return false;
+        }
+    }
+    true
+}
+
+// All registers are those of a state.
+fn rows_fit(w: &[u32]) -> bool
+    requires { ⌜ FlowsFit (now w) ⌝ }
+    ensures { λ r. ⌜ r ≡ allBelow (syIn (now (w .entry))) (λ y. allBelow (sxIn (now (w .entry))) (λ x. cellFits (now (w .entry)) x y)) ⌝ }
+{
+    let sy = w[1];
+    for y in 0..sy {
+        if !row_fits(w, y) {
+            return false;
+        }
+    }
+    true
+}
+
+// The size that the header asks for.
+fn size_in(w: &[u32]) -> usize
+    requires { ⌜ (headerSize ≤ length (now w)) × (headerFits (now w) ≡ true) ⌝ }
+    ensures { λ r. ⌜ r ≡ sizeIn (now (w .entry)) ⌝ }
+{
+    8 + 10 * (w[2] as usize) + 8 * ((w[0] * w[1]) as usize)
+}
+
+// 0 for words that form a state, otherwise 8 or 9: what every call on a state refuses first.
+pub fn state_number(w: &[u32]) -> u32
+    ensures { λ r. ⌜ r ≡ stateNumber (now (w .entry)) ⌝ }
+{
+    let length = w.len();
+    if length < 8 {
+        return 8;
+    }
+    if !header_fits(w) {
+        return 9;
+    }
+    if length < size_in(w) {
+        return 8;
+    }
+    if !flows_fit(w, w[2] as usize) {
+        return 9;
+    }
+    if !rows_fit(w) {
+        return 9;
+    }
+    0
+}

@@ -1,0 +1,33 @@
+-- Laws of memory whose leading part is written anew, part by part, and of refusals. Rests on specs/Outcome.
+use mathlib.Core.List.{List, _++_}
+use mathlib.Core.Path.{_≡_, refl, sym, ap, _∙_}
+use Prim.Native.Nat.{ℕ, zero, suc, _+_, _≤_, _<_}
+use native.Mathlib.Nat.{zero-add}
+use native.Mathlib.Omega.{arith}
+use lib.ListN.{length, drop, length-append, length-drop}
+use lib.Seq.{sets, sets-eq}
+use Rattle.laws.proofs.Stands.{Stands, stands-start}
+use Rattle.plan.specs.declared.Answer.{Answer}
+use Rattle.plan.specs.declared.Answer.the-variants.{Done, Refused}
+use Rattle.state.specs.Outcome.{Outcome, outcome, refused, unless, unlessRefused, over}
+
+pub over-length : (part memory : List ℕ) → length part ≤ length memory → length (over part memory) ≡ length memory
+over-length part memory h = omega (arith, length-append part (drop (length part) memory), length-drop (length part) memory)
+
+-- a run of stores from the start
+pub over-sets : (part memory : List ℕ) → length part ≤ length memory → sets memory 0 part ≡ over part memory
+over-sets part memory h = sets-eq part memory 0 (omega arith) ∙ rw zero-add
+
+-- memory with the part at its start, and the rest as it was
+pub over-is : (part memory after : List ℕ) → Stands 0 after 0 part → drop (length part) after ≡ drop (length part) memory → after ≡ over part memory
+over-is part memory after s e = rw (← e) (stands-start 0 after part s)
+
+-- no refusal, or one
+pub unless-passes : (n : ℕ) (memory : List ℕ) (o : Outcome) → n ≡ 0 → o ≡ unless n memory o
+unfolding unless
+unless-passes n memory o e = rw e
+
+pub unless-refuses : (n : ℕ) (memory : List ℕ) (o : Outcome) → (n ≡ 0 → ⊥) → refused n memory ≡ unless n memory o
+unfolding unless
+unless-refuses zero memory o e = absurd (e refl)
+unless-refuses (suc n) memory o e = refl
