@@ -1,4 +1,5 @@
 -- The laws of the cycle.
 pub mod Entrant
 pub mod Facts
+pub mod Exits
 pub mod Push

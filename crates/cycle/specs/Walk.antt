@@ -6,7 +6,8 @@ use Prim.Native.Nat.{ℕ, zero, suc, _+_, _-_, _*_, _≤_, _<_}
 use lib.Dec.{eqb}
 use lib.ListN.{length, getD}
 use lib.Seq.{sets}
-use Rattle.laws.specs.Count.{one}
+use Rattle.laws.specs.Bounded.{sumBelow}
+use Rattle.laws.specs.Count.{one, joinBelow}
 use Rattle.laws.specs.Grid.{cellIndex}
 use Rattle.laws.specs.Turns.{turns}
 use Rattle.torus.specs.Ring.{next}
@@ -23,7 +24,7 @@ use Rattle.state.specs.State.{State, cellAt}
 use Rattle.state.specs.Words.{registerWords, tallyWords}
 use Rattle.state.specs.Read.{sxIn, syIn, routerIn, stateOf}
 use Rattle.cycle.specs.Entry.{portOpen, ready, entering, isPort}
-use Rattle.cycle.specs.Step.{eastward, southward, exits, nextTally}
+use Rattle.cycle.specs.Step.{eastward, southward, exits, delivered, nextTally}
 
 -- the port of a flow at its client's router is open
 abbrev pub openFor : State → Flow → Bool
@@ -97,3 +98,10 @@ pushedRow w y l = turns (sxIn w) (λ x. pushed w x y) l
 
 unfoldable pub pushedAll : (w : List ℕ) → List ℕ → List ℕ
 pushedAll w l = turns (syIn w) (pushedRow w) l
+
+-- how many packets exit in row y, and what its routers deliver
+unfoldable pub rowExits : (w : List ℕ) → (y : ℕ) → ℕ
+rowExits w y = sumBelow (sxIn w) (λ x. one (exits (stateOf w) x y))
+
+unfoldable pub rowDelivers : (w : List ℕ) → (y : ℕ) → List ℕ
+rowDelivers w y = joinBelow (sxIn w) (λ x. delivered (stateOf w) x y)

@@ -22,9 +22,10 @@ ghost use Rattle.state.specs.Forms.{sizeIn};
 ghost use Rattle.state.proofs.Forms.{StateFacts};
 ghost use Rattle.cycle.specs.Router.{isEmpty, turnsSouth, atHome, deflected, firstOf};
 ghost use Rattle.cycle.specs.Entry.{ready, enters};
-ghost use Rattle.cycle.specs.Walk.{openFor, tallyAfter, entrant, Entrants, tallied, pushEast, pushSouth, pushed};
+ghost use Rattle.cycle.specs.Walk.{openFor, tallyAfter, entrant, Entrants, tallied, pushEast, pushSouth, pushed, pushedRow, pushedAll, rowExits, rowDelivers};
 ghost use Rattle.cycle.specs.Sent.{sentBy, sentAt};
-ghost use Rattle.cycle.specs.Step.{exits, exitWords, delivered};
+ghost use Rattle.cycle.specs.Step.{exits, exitWords, delivered, stepDelivers};
+ghost use Rattle.cycle.specs.Calls.{exitCount};
 ghost use Rattle.cycle.specs.Bounds.{deflectionsOf};
 
 // What is sent by the two outputs of a router.
@@ -459,4 +460,49 @@ fn route(
     push_east(state, x, y, east, next);
     push_south(state, x, y, unless_exits(exits, south), next);
     deliver(exits, south, state[3], delivery, count)
+}
+
+// The routers of row y, after `count` exits.
+fn route_row(
+    state: &[u32],
+    y: u32,
+    entrants: &[u32],
+    next: &mut [u32],
+    delivery: &mut [u32],
+    count: u32,
+) -> u32
+    requires { ⌜ StateFacts (now state) ⌝ }
+    requires { ⌜ (y < syIn (now state)) × (clockIn (now state) < 4294967295) ⌝ }
+    requires { ⌜ Entrants (stateOf (now state)) (countIn (now state)) (now entrants) ⌝ }
+    requires { ⌜ sizeIn (now state) ≤ length (now next) ⌝ }
+    requires { ⌜ (count + sxIn (now state) ≤ 256) × (5 * (count + sxIn (now state)) ≤ length (now delivery)) ⌝ }
+    ensures { λ _. ⌜ now (next .exit) ≡ pushedRow (now (state .entry)) y (now (next .entry)) ⌝ }
+    ensures { λ r. ⌜ r ≡ count + rowExits (now (state .entry)) y ⌝ }
+    ensures { λ _. ⌜ now (delivery .exit) ≡ sets (now (delivery .entry)) (5 * count) (rowDelivers (now (state .entry)) y) ⌝ }
+{
+    let sx = state[0];
+    let mut done = count;
+    for x in 0..sx {
+        done = route(state, x, y, entrants, next, delivery, done);
+    }
+    done
+}
+
+// All routers, by row then column.
+fn route_all(state: &[u32], entrants: &[u32], next: &mut [u32], delivery: &mut [u32]) -> u32
+    requires { ⌜ StateFacts (now state) ⌝ }
+    requires { ⌜ clockIn (now state) < 4294967295 ⌝ }
+    requires { ⌜ Entrants (stateOf (now state)) (countIn (now state)) (now entrants) ⌝ }
+    requires { ⌜ sizeIn (now state) ≤ length (now next) ⌝ }
+    requires { ⌜ 5 * (sxIn (now state) * syIn (now state)) ≤ length (now delivery) ⌝ }
+    ensures { λ _. ⌜ now (next .exit) ≡ pushedAll (now (state .entry)) (now (next .entry)) ⌝ }
+    ensures { λ r. ⌜ r ≡ exitCount (stateOf (now (state .entry))) ⌝ }
+    ensures { λ _. ⌜ now (delivery .exit) ≡ sets (now (delivery .entry)) 0 (stepDelivers (stateOf (now (state .entry)))) ⌝ }
+{
+    let sy = state[1];
+    let mut done = 0;
+    for y in 0..sy {
+        done = route_row(state, y, entrants, next, delivery, done);
+    }
+    done
 }
