@@ -111,3 +111,7 @@ all-exits w = refl
 pub all-words : (w : List ℕ) → joinBelow (syIn w) (rowDelivers w) ≡ stepDelivers (stateOf w)
 unfolding stepDelivers rowDelivers stateOf planIn
 all-words w = refl
+
+-- they fit where 10 isn't refused
+pub delivers-fit : (w : List ℕ) → length (stepDelivers (stateOf w)) ≤ 5 * (sxIn w * syIn w)
+delivers-fit w = rw (← (all-words w)) (omega (arith, length-counted (allWalk w) (syIn w), all-most w (syIn w)))

@@ -3,6 +3,7 @@ use mathlib.Core.Bool.{Bool, true, false, cond, _&&_}
 use mathlib.Core.List.{List}
 use mathlib.Core.Path.{_≡_, refl, sym, ap, _∙_}
 use Prim.Native.Nat.{ℕ, zero, suc, _+_, _-_, _*_, _≤_, _<_}
+use native.Mathlib.Nat.{mul-le-mul}
 use native.Mathlib.Omega.{arith}
 use borrow.Author.Tests.{leb-true}
 use lib.Dec.{leb, eqb}
@@ -25,7 +26,7 @@ use Rattle.state.specs.Layout.{registerSize, routerSize, flowSize, flowPlace}
 use Rattle.state.specs.State.{tallyAt, cellAt}
 use Rattle.state.specs.Words.{flowOf}
 use Rattle.state.specs.Read.{sxIn, syIn, countIn, clockIn, flowIn, registerIn, routerIn, planIn, stateOf}
-use Rattle.state.specs.Forms.{registerFits}
+use Rattle.state.specs.Forms.{registerFits, sizeIn}
 use Rattle.state.proofs.Forms.{HeaderFacts, FlowFacts, TallyFacts, PacketFacts, StateFacts, packet-facts}
 use Rattle.state.proofs.View.{view-count, view-flow, view-tally, view-cell}
 use Rattle.state.proofs.Words.{router-below}
@@ -42,6 +43,15 @@ module _ (w : List ℕ) (s : StateFacts w) where
   router-fits x y h k =
       let long = s .long in
       omega (arith, router-below (countIn w) (sxIn w) (syIn w) x y h k)
+
+  -- at most 256 routers, and 4,616 words
+  pub cells-most : sxIn w * syIn w ≤ 256
+  cells-most = mul-le-mul {n₁ = sxIn w} {m₁ = syIn w} {n₂ = 16} {m₂ = 16} (s .header .sx-ok .most) (s .header .sy-ok .most)
+
+  pub size-most : sizeIn w ≤ 4616
+  size-most =
+      let count = s .header .count-most in
+      omega (arith, cells-most)
 
   -- flow f's numbers and tally are in their ranges
   pub flow-ok : (f : ℕ) → f < countIn w → FlowOk (sxIn w) (syIn w) (flowAt ((stateOf w) .plan) f)

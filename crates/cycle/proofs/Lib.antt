@@ -3,3 +3,4 @@ pub mod Entrant
 pub mod Facts
 pub mod Exits
 pub mod Push
+pub mod Next

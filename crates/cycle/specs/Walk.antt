@@ -4,7 +4,7 @@ use mathlib.Core.List.{List}
 use mathlib.Core.Path.{_≡_}
 use Prim.Native.Nat.{ℕ, zero, suc, _+_, _-_, _*_, _≤_, _<_}
 use lib.Dec.{eqb}
-use lib.ListN.{length, getD}
+use lib.ListN.{length, getD, set, take}
 use lib.Seq.{sets}
 use Rattle.laws.specs.Bounded.{sumBelow}
 use Rattle.laws.specs.Count.{one, joinBelow}
@@ -22,7 +22,8 @@ use Rattle.state.specs.declared.Tally.{Tally}
 use Rattle.state.specs.Layout.{registerSize, routerSize, flowPlace, numberSize}
 use Rattle.state.specs.State.{State, cellAt}
 use Rattle.state.specs.Words.{registerWords, tallyWords}
-use Rattle.state.specs.Read.{sxIn, syIn, routerIn, stateOf}
+use Rattle.state.specs.Read.{sxIn, syIn, countIn, clockIn, routerIn, stateOf}
+use Rattle.state.specs.Outcome.{over}
 use Rattle.cycle.specs.Entry.{portOpen, ready, entering, isPort}
 use Rattle.cycle.specs.Step.{eastward, southward, exits, delivered, nextTally}
 
@@ -105,3 +106,11 @@ rowExits w y = sumBelow (sxIn w) (λ x. one (exits (stateOf w) x y))
 
 unfoldable pub rowDelivers : (w : List ℕ) → (y : ℕ) → List ℕ
 rowDelivers w y = joinBelow (sxIn w) (λ x. delivered (stateOf w) x y)
+
+-- the words l, after header and flows were copied with the next clock
+unfoldable pub begun : (w : List ℕ) → List ℕ → List ℕ
+begun w l = set (over (take (flowPlace (countIn w)) w) l) 3 (clockIn w + 1)
+
+-- and with every tally and every register
+unfoldable pub nextWords : (w : List ℕ) → List ℕ → List ℕ
+nextWords w l = pushedAll w (turns (countIn w) (tallied w) (begun w l))

@@ -8,7 +8,7 @@ ghost use mathlib.Core.Path.{_≡_};
 ghost use mathlib.Core.Bool.{cond, true};
 ghost use mathlib.Core.List.{[]};
 ghost use Prim.Native.Nat.{_+_, _*_, _<_, _≤_};
-ghost use lib.ListN.{length};
+ghost use lib.ListN.{length, take};
 ghost use lib.Seq.{sets};
 ghost use Rattle.laws.specs.Count.{one};
 ghost use Rattle.laws.specs.Grid.{cellIndex};
@@ -16,15 +16,16 @@ ghost use Rattle.laws.specs.Turns.{turns};
 ghost use Rattle.flow.specs.Plan.{flowAt, FlowOk};
 ghost use Rattle.state.specs.declared.Register.the-variants.{Empty};
 ghost use Rattle.state.specs.State.{tallyAt, cellAt};
-ghost use Rattle.state.specs.Words.{flowOf};
+ghost use Rattle.state.specs.Words.{flowOf, stateWords};
 ghost use Rattle.state.specs.Read.{sxIn, syIn, countIn, clockIn, routerIn, stateOf};
-ghost use Rattle.state.specs.Forms.{sizeIn};
+ghost use Rattle.state.specs.Forms.{sizeIn, stateNumber};
+ghost use Rattle.state.specs.Outcome.{over};
 ghost use Rattle.state.proofs.Forms.{StateFacts};
 ghost use Rattle.cycle.specs.Router.{isEmpty, turnsSouth, atHome, deflected, firstOf};
 ghost use Rattle.cycle.specs.Entry.{ready, enters};
-ghost use Rattle.cycle.specs.Walk.{openFor, tallyAfter, entrant, Entrants, tallied, pushEast, pushSouth, pushed, pushedRow, pushedAll, rowExits, rowDelivers};
+ghost use Rattle.cycle.specs.Walk.{openFor, tallyAfter, entrant, Entrants, tallied, pushEast, pushSouth, pushed, pushedRow, pushedAll, rowExits, rowDelivers, begun, nextWords};
 ghost use Rattle.cycle.specs.Sent.{sentBy, sentAt};
-ghost use Rattle.cycle.specs.Step.{exits, exitWords, delivered, stepDelivers};
+ghost use Rattle.cycle.specs.Step.{exits, exitWords, delivered, stepState, stepDelivers};
 ghost use Rattle.cycle.specs.Calls.{exitCount};
 ghost use Rattle.cycle.specs.Bounds.{deflectionsOf};
 
@@ -505,4 +506,66 @@ fn route_all(state: &[u32], entrants: &[u32], next: &mut [u32], delivery: &mut [
         done = route_row(state, y, entrants, next, delivery, done);
     }
     done
+}
+
+// Copies the first n words.
+fn copy(from: &[u32], to: &mut [u32], n: usize)
+    requires { ⌜ (n ≤ length (now from)) × (n ≤ length (now to)) ⌝ }
+    ensures { λ _. ⌜ now (to .exit) ≡ over (take n (now (from .entry))) (now (to .entry)) ⌝ }
+{
+    for i in 0..n {
+        to[i] = from[i];
+    }
+}
+
+// Copies header and flows, with the next clock.
+fn begin_next(state: &[u32], next: &mut [u32])
+    requires { ⌜ StateFacts (now state) ⌝ }
+    requires { ⌜ (clockIn (now state) < 4294967295) × (sizeIn (now state) ≤ length (now next)) ⌝ }
+    ensures { λ _. ⌜ now (next .exit) ≡ begun (now (state .entry)) (now (next .entry)) ⌝ }
+{
+    let flows = state[2] as usize;
+    copy(state, next, 8 + 10 * flows);
+    next[3] = state[3] + 1;
+}
+
+// The words of the state after a cycle; the exits' words, and their count.
+fn fill_next(state: &[u32], entrants: &mut [u32], next: &mut [u32], delivery: &mut [u32]) -> u32
+    requires { ⌜ StateFacts (now state) ⌝ }
+    requires { ⌜ clockIn (now state) < 4294967295 ⌝ }
+    requires { ⌜ Entrants (stateOf (now state)) 0 (now entrants) ⌝ }
+    requires { ⌜ sizeIn (now state) ≤ length (now next) ⌝ }
+    requires { ⌜ 5 * (sxIn (now state) * syIn (now state)) ≤ length (now delivery) ⌝ }
+    ensures { λ _. ⌜ now (next .exit) ≡ nextWords (now (state .entry)) (now (next .entry)) ⌝ }
+    ensures { λ r. ⌜ r ≡ exitCount (stateOf (now (state .entry))) ⌝ }
+    ensures { λ _. ⌜ now (delivery .exit) ≡ sets (now (delivery .entry)) 0 (stepDelivers (stateOf (now (state .entry)))) ⌝ }
+{
+    begin_next(state, next);
+    walk_flows(state, entrants, next);
+    route_all(state, entrants, next, delivery)
+}
+
+// The size of the state.
+fn size_of(state: &[u32]) -> usize
+    requires { ⌜ StateFacts (now state) ⌝ }
+    ensures { λ r. ⌜ r ≡ sizeIn (now (state .entry)) ⌝ }
+{
+    8 + 10 * (state[2] as usize) + 8 * ((state[0] * state[1]) as usize)
+}
+
+// One cycle: the state's words, the exits' words, and their count.
+fn advance(state: &mut [u32], delivery: &mut [u32]) -> u32
+    requires { ⌜ stateNumber (now state) ≡ 0 ⌝ }
+    requires { ⌜ clockIn (now state) < 4294967295 ⌝ }
+    requires { ⌜ 5 * (sxIn (now state) * syIn (now state)) ≤ length (now delivery) ⌝ }
+    ensures { λ _. ⌜ now (state .exit) ≡ over (stateWords (stepState (stateOf (now (state .entry))))) (now (state .entry)) ⌝ }
+    ensures { λ r. ⌜ r ≡ exitCount (stateOf (now (state .entry))) ⌝ }
+    ensures { λ _. ⌜ now (delivery .exit) ≡ over (stepDelivers (stateOf (now (state .entry)))) (now (delivery .entry)) ⌝ }
+{
+    let mut entrants = [0u32; 256];
+    let mut next = [0u32; 4616];
+    let exits = fill_next(state, &mut entrants, &mut next, delivery);
+    let size = size_of(state);
+    copy(&next, state, size);
+    exits
 }
