@@ -2,5 +2,7 @@
 pub mod Entrant
 pub mod Facts
 pub mod Exits
+pub mod Stored
+pub mod Offered
 pub mod Push
 pub mod Next

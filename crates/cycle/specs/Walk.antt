@@ -3,7 +3,7 @@ use mathlib.Core.Bool.{Bool, cond, _&&_}
 use mathlib.Core.List.{List}
 use mathlib.Core.Path.{_≡_}
 use Prim.Native.Nat.{ℕ, zero, suc, _+_, _-_, _*_, _≤_, _<_}
-use lib.Dec.{eqb}
+use lib.Dec.{leb, eqb}
 use lib.ListN.{length, getD, set, take}
 use lib.Seq.{sets}
 use Rattle.laws.specs.Bounded.{sumBelow}
@@ -16,11 +16,12 @@ use Rattle.flow.specs.declared.Port.{Port}
 use Rattle.flow.specs.Offsets.{portOf}
 use Rattle.flow.specs.Plan.{flowAt}
 use Rattle.bucket.specs.Regulator.{afterCycle}
+use Rattle.book.specs.Calls.{mostWaiting}
 use Rattle.state.specs.declared.Register.{Register}
 use Rattle.state.specs.declared.Register.the-variants.{Empty}
 use Rattle.state.specs.declared.Tally.{Tally}
 use Rattle.state.specs.Layout.{registerSize, routerSize, flowPlace, numberSize}
-use Rattle.state.specs.State.{State, cellAt}
+use Rattle.state.specs.State.{State, tallyAt, cellAt}
 use Rattle.state.specs.Words.{registerWords, tallyWords}
 use Rattle.state.specs.Read.{sxIn, syIn, countIn, clockIn, routerIn, stateOf}
 use Rattle.state.specs.Outcome.{over}
@@ -114,3 +115,7 @@ begun w l = set (over (take (flowPlace (countIn w)) w) l) 3 (clockIn w + 1)
 -- and with every tally and every register
 unfoldable pub nextWords : (w : List ℕ) → List ℕ → List ℕ
 nextWords w l = pushedAll w (turns (countIn w) (tallied w) (begun w l))
+
+-- the refusal of an offer after the state's own, or 0
+unfoldable pub offerNumber : (w : List ℕ) → (f : ℕ) → ℕ
+offerNumber w f = cond (leb (countIn w) f) 12 (cond (leb mostWaiting ((tallyAt (stateOf w) f) .waiting)) 13 0)

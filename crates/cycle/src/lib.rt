@@ -1,6 +1,7 @@
 // One cycle of the torus on a state's words, and offers. Rests on state.
 use flow::Flow;
 use flow::Port;
+use plan::Answer;
 use state::Cell;
 use state::Register;
 use state::Tally;
@@ -19,14 +20,15 @@ ghost use Rattle.state.specs.State.{tallyAt, cellAt};
 ghost use Rattle.state.specs.Words.{flowOf, stateWords};
 ghost use Rattle.state.specs.Read.{sxIn, syIn, countIn, clockIn, routerIn, stateOf};
 ghost use Rattle.state.specs.Forms.{sizeIn, stateNumber};
-ghost use Rattle.state.specs.Outcome.{over};
+ghost use Rattle.state.specs.Outcome.{outcome, over};
 ghost use Rattle.state.proofs.Forms.{StateFacts};
 ghost use Rattle.cycle.specs.Router.{isEmpty, turnsSouth, atHome, deflected, firstOf};
 ghost use Rattle.cycle.specs.Entry.{ready, enters};
-ghost use Rattle.cycle.specs.Walk.{openFor, tallyAfter, entrant, Entrants, tallied, pushEast, pushSouth, pushed, pushedRow, pushedAll, rowExits, rowDelivers, begun, nextWords};
+ghost use Rattle.cycle.specs.Walk.{openFor, tallyAfter, entrant, Entrants, tallied, pushEast, pushSouth, pushed, pushedRow, pushedAll, rowExits, rowDelivers, begun, nextWords, offerNumber};
 ghost use Rattle.cycle.specs.Sent.{sentBy, sentAt};
 ghost use Rattle.cycle.specs.Step.{exits, exitWords, delivered, stepState, stepDelivers};
-ghost use Rattle.cycle.specs.Calls.{exitCount};
+ghost use Rattle.cycle.specs.Calls.{exitCount, offerOn, stepNumber, stepOutcome, stepOn};
+ghost use Rattle.cycle.specs.Offer.{offerState};
 ghost use Rattle.cycle.specs.Bounds.{deflectionsOf};
 
 // What is sent by the two outputs of a router.
@@ -568,4 +570,88 @@ fn advance(state: &mut [u32], delivery: &mut [u32]) -> u32
     let size = size_of(state);
     copy(&next, state, size);
     exits
+}
+
+// A packet more waits at flow f.
+fn wait_more(state: &mut [u32], f: u32)
+    requires { ⌜ stateNumber (now state) ≡ 0 ⌝ }
+    requires { ⌜ f < countIn (now state) ⌝ }
+    ensures { λ _. ⌜ now (state .exit) ≡ over (stateWords (offerState (stateOf (now (state .entry))) f)) (now (state .entry)) ⌝ }
+{
+    let t = tally_at(state, f);
+    let bucket = t.bucket;
+    let more = Tally {
+        bucket,
+        entered: t.entered,
+        waiting: t.waiting + 1,
+    };
+    state::put_tally(state, 8 + 10 * (f as usize), more);
+}
+
+// The refusal of an offer after the state's own, or 0.
+fn offer_number(state: &[u32], f: u32) -> u32
+    requires { ⌜ StateFacts (now state) ⌝ }
+    ensures { λ r. ⌜ r ≡ offerNumber (now (state .entry)) f ⌝ }
+{
+    if state[2] <= f {
+        return 12;
+    }
+    let t = tally_at(state, f);
+    if 65535 <= t.waiting {
+        return 13;
+    }
+    0
+}
+
+// An offer of one packet to a flow: 0, or the refusal.
+pub fn offer(state: &mut [u32], flow: u32) -> Answer
+    ensures { λ r. ⌜ outcome r (now (state .exit)) ≡ offerOn (now (state .entry)) flow ⌝ }
+{
+    let number = forms::state_number(state);
+    if number != 0 {
+        return Answer::Refused { number, place: 0 };
+    }
+    let other = offer_number(state, flow);
+    if other != 0 {
+        return Answer::Refused {
+            number: other,
+            place: 0,
+        };
+    }
+    wait_more(state, flow);
+    Answer::Done(0)
+}
+
+// The refusal of a step after the state's own, or 0.
+fn step_number(state: &[u32], delivery: &[u32]) -> u32
+    requires { ⌜ StateFacts (now state) ⌝ }
+    ensures { λ r. ⌜ r ≡ stepNumber (now (state .entry)) (now (delivery .entry)) ⌝ }
+{
+    let routers = (state[0] * state[1]) as usize;
+    if delivery.len() < 5 * routers {
+        return 10;
+    }
+    if state[3] == 4294967295 {
+        return 11;
+    }
+    0
+}
+
+// One cycle of the torus: the count of exits, or the refusal.
+pub fn step(state: &mut [u32], delivery: &mut [u32]) -> Answer
+    ensures { λ r. ⌜ stepOutcome r (now (state .exit)) (now (delivery .exit)) ≡ stepOn (now (state .entry)) (now (delivery .entry)) ⌝ }
+{
+    let number = forms::state_number(state);
+    if number != 0 {
+        return Answer::Refused { number, place: 0 };
+    }
+    let other = step_number(state, delivery);
+    if other != 0 {
+        return Answer::Refused {
+            number: other,
+            place: 0,
+        };
+    }
+    let exits = advance(state, delivery);
+    Answer::Done(exits)
 }
