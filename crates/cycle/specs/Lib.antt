@@ -4,3 +4,6 @@ pub mod Entry
 pub mod Step
 pub mod Offer
 pub mod Calls
+pub mod Bounds
+pub mod Walk
+pub mod Sent

@@ -2,7 +2,8 @@
 use mathlib.Core.List.{List, [], _∷_, append-nil}
 use mathlib.Core.Path.{_≡_, refl, ap, _∙_}
 use Prim.Native.Nat.{ℕ, zero, suc, _+_, _*_, _≤_, _<_}
-use native.Mathlib.Nat.{add-zero, zero-add, one-mul, add-assoc, mul-add, mul-assoc, mul-comm, mul-le-mul-left, mul-suc, mul-zero}
+use native.Mathlib.Nat.{add-zero, zero-add, one-mul, add-assoc, mul-add, mul-assoc, mul-comm, mul-le-mul-left, mul-le-mul-right, mul-suc, mul-zero}
+use native.Mathlib.Decide.{decLt, ℕ-discrete}
 use native.Mathlib.Omega.{arith}
 use lib.ListN.{length, getD, drop-of-length-le}
 use Rattle.laws.specs.Bounded.{tabulate}
@@ -14,6 +15,17 @@ use Rattle.laws.proofs.Stands.{Stands, length-join, join-stands, stands
 pub cell-below : (sx sy x y : ℕ) → x < sx → y < sy → cellIndex sx x y < sx * sy
 cell-below sx sy x y h k =
     omega (arith, mul-le-mul-left {m = suc y} sx k, mul-suc sx y, mul-comm sx y)
+
+-- no two cells have one index
+pub cell-one : (sx x y a b : ℕ) → x < sx → a < sx → cellIndex sx x y ≡ cellIndex sx a b → (x ≡ a) × (y ≡ b)
+cell-one sx x y a b h k e =
+    elim (ℕ-discrete y b) [
+      | yes same ↦ (omega (arith, ap (λ r. r * sx) same), same)
+      | no other ↦ elim (decLt y b) [
+        | yes m ↦ absurd (omega (arith, mul-le-mul-right {m = suc y} {n = b} sx m))
+        | no m ↦ absurd (omega (arith, mul-le-mul-right {m = suc b} {n = y} sx (omega arith)))
+      ]
+    ]
 
 -- where cell (x, y) stands, by rows of sx parts of length c
 place : (c sx x y : ℕ) → c * sx * y + c * x ≡ c * cellIndex sx x y

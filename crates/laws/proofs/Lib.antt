@@ -7,5 +7,6 @@ pub mod Keep
 pub mod Parts
 pub mod Stands
 pub mod Grid
+pub mod Stores
 pub mod Turns
 pub mod Written

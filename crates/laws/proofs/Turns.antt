@@ -1,7 +1,10 @@
 -- Laws of a loop's turns, one for every loop that fills slots. Rests on specs/Turns.
 use mathlib.Core.Path.{_≡_, refl, sym, ap, _∙_}
+use mathlib.Core.Logic.{inl, inr, _≢_}
 use Prim.Native.Nat.{ℕ, zero, suc, _+_, _≤_, _<_}
+use native.Mathlib.Nat.{eq-or-lt-of-le, le-of-suc-le-suc}
 use native.Mathlib.Numerals.{add-one}
+use native.Mathlib.Omega.{arith}
 use Rattle.laws.specs.Turns.{turns}
 
 module _ {A : Type 0} where
@@ -13,3 +16,24 @@ module _ {A : Type 0} where
   pub turns-more : (n : ℕ) (step : ℕ → A → A) (a b : A) → b ≡ turns n step a → step n b ≡ turns (n + 1) step a
   unfolding turns
   turns-more n step a b e = rw (add-one, e)
+
+  module _ (n : ℕ) (step : ℕ → A → A) (Ok : A → Type 0) (keeps : (i : ℕ) (a : A) → i < n → Ok a → Ok (step i a)) where
+    -- what every turn keeps
+    pub turns-keep : (m : ℕ) (a : A) → m ≤ n → Ok a → Ok (turns m step a)
+    unfolding turns
+    turns-keep zero a l ok = ok
+    turns-keep (suc m) a l ok = keeps m (turns m step a) l (turns-keep m a (omega arith) ok)
+
+    -- turn i fills slot i and leaves every other slot: after all turns each slot is filled
+    pub turns-fill : (Holds : ℕ → A → Type 0)
+        → ((i : ℕ) (a : A) → i < n → Ok a → Holds i (step i a))
+        → ((i k : ℕ) (a : A) → i < n → k < n → k ≢ i → Ok a → Holds k a → Holds k (step i a))
+        → (m : ℕ) (a : A) → m ≤ n → Ok a → (k : ℕ) → k < m → Holds k (turns m step a)
+    unfolding turns
+    turns-fill Holds fills others zero a l ok k h = absurd (omega arith)
+    turns-fill Holds fills others (suc m) a l ok k h =
+        let now = turns-keep m a (omega arith) ok in
+        elim (eq-or-lt-of-le (le-of-suc-le-suc h)) [
+          | inl same ↦ rw same (fills m (turns m step a) l now)
+          | inr below ↦ others m k (turns m step a) l (omega arith) (λ e. omega arith) now (turns-fill Holds fills others m a (omega arith) ok k below)
+        ]

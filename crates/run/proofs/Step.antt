@@ -13,7 +13,7 @@ use Rattle.laws.proofs.Count.{count-map, count-sum}
 use Rattle.laws.proofs.Keep.{few, kept, keep-all, keep-same, keep-both, keep-map, length-keep}
 use Rattle.laws.proofs.Grid.{tabulate-same, grid-same}
 use Rattle.torus.specs.Ring.{next, previous}
-use Rattle.torus.proofs.Ring.{previous-next}
+use Rattle.torus.proofs.Ring.{previous-below, next-previous}
 use Rattle.flow.specs.declared.Flow.{Flow}
 use Rattle.flow.specs.declared.Port.{Port}
 use Rattle.flow.specs.declared.Port.the-variants.{East, South}
@@ -91,10 +91,12 @@ module _ (p : Plan) (b : Book) (k : Kept p b) where
   next-cell : (x y : ℕ) → x < p .sx → y < p .sy → nextCell (bookState p b) x y ≡ cellOf (stepped p b) x y
   unfolding nextCell bookState
   next-cell x y lx ly =
-      let u = previous-next (p .sx) x lx in
-      let v = previous-next (p .sy) y ly in
-      let west = ap (λ (u : ℕ). registerOf (stepped p b) (W u y)) (sym (u .1)) ∙ west-next (previous (p .sx) x) y (u .0) ly in
-      let north = ap (λ (v : ℕ). registerOf (stepped p b) (N x v)) (sym (v .1)) ∙ north-next x (previous (p .sy) y) lx (v .0) in
+      let west =
+          ap (λ (u : ℕ). registerOf (stepped p b) (W u y)) (sym (next-previous (p .sx) x lx))
+          ∙ west-next (previous (p .sx) x) y (previous-below (p .sx) x lx) ly in
+      let north =
+          ap (λ (v : ℕ). registerOf (stepped p b) (N x v)) (sym (next-previous (p .sy) y ly))
+          ∙ north-next x (previous (p .sy) y) lx (previous-below (p .sy) y ly) in
       sym (λ i. record { west = west i; north = north i })
 
   -- a flow that enters has one waiting line less

@@ -70,22 +70,31 @@ next-one size a b l m e =
       | inr h ↦ elim (next-cases size b m) [ inl k ↦ absurd (omega arith) | inr k ↦ omega arith ]
     ]
 
--- the place before comes next to this one
-pub previous-next : (size at : ℕ) → at < size → (previous size at < size) × (next size (previous size at) ≡ at)
+-- before 0 comes the last
+pub previous-cases : (size at : ℕ) → ((at ≡ 0) × (previous size at ≡ size - 1)) ⊎ ((1 ≤ at) × (previous size at ≡ at - 1))
 unfolding previous
-previous-next size at l =
-    elim (ℕ-discrete at 0) [
-      | yes e ↦
-          let m : size - 1 < size = omega arith in
-          rw (eq-eqb at 0 e) (m, elim (next-cases size (size - 1) m) [ inl h ↦ omega arith | inr h ↦ absurd (omega arith) ])
-      | no e ↦
-          let m : at - 1 < size = omega arith in
-          rw (ne-eqb at 0 e) (m, elim (next-cases size (at - 1) m) [ inl h ↦ absurd (omega arith) | inr h ↦ omega arith ])
+previous-cases size at =
+    elim (ℕ-discrete at 0) [ yes e ↦ inl (e, rw (eq-eqb at 0 e)) | no e ↦ inr (omega arith, rw (ne-eqb at 0 e)) ]
+
+pub previous-below : (size at : ℕ) → at < size → previous size at < size
+previous-below size at l = elim (previous-cases size at) [ inl h ↦ omega arith | inr h ↦ omega arith ]
+
+-- the place next to the previous one, and the one before the next
+pub next-previous : (size at : ℕ) → at < size → next size (previous size at) ≡ at
+next-previous size at l =
+    elim (previous-cases size at) [
+      | inl h ↦ elim (next-cases size (previous size at) (previous-below size at l)) [ inl k ↦ omega arith | inr k ↦ absurd (omega arith) ]
+      | inr h ↦ elim (next-cases size (previous size at) (previous-below size at l)) [ inl k ↦ absurd (omega arith) | inr k ↦ omega arith ]
     ]
+
+pub previous-next : (size at : ℕ) → at < size → previous size (next size at) ≡ at
+previous-next size at l =
+    next-one size (previous size (next size at)) at (previous-below size (next size at) (next-below size at l)) l
+    (next-previous size (next size at) (next-below size at l))
 
 -- each place is next to one
 pub next-of : (size to : ℕ) → to < size → (at : ℕ) × (at < size) × (next size at ≡ to)
-next-of size to l = let h = previous-next size to l in (previous size to, h .0, h .1)
+next-of size to l = (previous size to, previous-below size to l, next-previous size to l)
 
 -- one place on, the offset is one more, or the ring is round
 pub offset-next : (size from at : ℕ) → from < size → at < size

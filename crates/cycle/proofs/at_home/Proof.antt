@@ -1,0 +1,27 @@
+-- `at_home`: the definition's own cases.
+use mathlib.Core.Path.{_≡_}
+use borrow.Author.Needs.{needs}
+use borrow.Author.Tests.{eq-eqb, ne-eqb}
+use Rattle.cycle.specs.Router.{atHome}
+use Rattle.cycle.proofs.at_home.Statement.{statement}
+use Rattle.cycle.proofs.at_home.Tie as tie
+
+flow-at-requires : tie.Need-flow-at-requires
+flow-at-requires c κs =
+    let p = c .before .before .before .before .pre in
+    (p .0, rw (c .before .r .given .1) at (p .1))
+
+returns : tie.Need-returns
+unfolding atHome
+returns c = rw (c .before .before .before .before .r .given .1, ← (c .before .before .flow-at .ensures), ne-eqb _ _ (c .if1 .taken))
+
+returns-2 : tie.Need-returns-2
+unfolding atHome
+returns-2 c = rw (c .enum-told .given .1)
+
+returns-3 : tie.Need-returns-3
+unfolding atHome
+returns-3 c = rw (c .before .before .before .before .before .r .given .1, ← (c .before .before .before .flow-at .ensures), eq-eqb _ _ (c .before .if1 .left))
+
+pub at-home-spec : {M : Type 1} → statement M
+at-home-spec = tie.close (tie.spec (λ c. search needs) (λ c. search needs) flow-at-requires returns returns-2 returns-3)
