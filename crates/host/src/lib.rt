@@ -2,8 +2,9 @@
 use plan::Answer;
 ghost use mathlib.Core.Path.{_≡_};
 ghost use Rattle.bounds.specs.Calls.{windowAnswer, flightAnswer, NumberMost};
-ghost use Rattle.host.specs.Words.{windowWord, answerWord, notesAnswer, said, saidOf};
+ghost use Rattle.host.specs.Words.{windowWord, answerWord, notesAnswer, said, saidOf, saidStep, saidOfStep};
 ghost use Rattle.state.specs.Calls.{resetOn, writeOn};
+ghost use Rattle.cycle.specs.Calls.{offerOn, stepOn};
 
 // The window call's answer as a number.
 fn window_word(a: Answer) -> u32
@@ -67,4 +68,20 @@ pub extern "C" fn hrt_write(state: &[u32], notes: &[u8], target: &mut [u8]) -> u
     ensures { λ r. ⌜ said r (now (target .exit)) ≡ saidOf (writeOn (now (state .entry)) (now (notes .entry)) (now (target .entry))) ⌝ }
 {
     answer_word(writing::write(state, notes, target))
+}
+
+// One packet of a flow.
+#[no_mangle]
+pub extern "C" fn hrt_offer(state: &mut [u32], flow: u32) -> u64
+    ensures { λ r. ⌜ said r (now (state .exit)) ≡ saidOf (offerOn (now (state .entry)) flow) ⌝ }
+{
+    answer_word(cycle::offer(state, flow))
+}
+
+// One cycle, and its exits.
+#[no_mangle]
+pub extern "C" fn hrt_step(state: &mut [u32], delivery: &mut [u32]) -> u64
+    ensures { λ r. ⌜ saidStep r (now (state .exit)) (now (delivery .exit)) ≡ saidOfStep (stepOn (now (state .entry)) (now (delivery .entry))) ⌝ }
+{
+    answer_word(cycle::step(state, delivery))
 }
