@@ -1,6 +1,6 @@
 -- Laws of tables by row, then column, and of equal parts joined in that order. Rests on Stands and specs/Grid.
-use mathlib.Core.List.{List, [], _∷_, _++_, append-nil}
-use mathlib.Core.Path.{_≡_, refl, sym, ap, _∙_}
+use mathlib.Core.List.{List, [], _∷_, append-nil}
+use mathlib.Core.Path.{_≡_, refl, ap, _∙_}
 use Prim.Native.Nat.{ℕ, zero, suc, _+_, _*_, _≤_, _<_}
 use native.Mathlib.Nat.{add-zero, zero-add, one-mul, add-assoc, mul-add, mul-assoc, mul-comm, mul-le-mul-left, mul-suc, mul-zero}
 use native.Mathlib.Omega.{arith}
