@@ -12,8 +12,8 @@ ghost use Rattle.laws.specs.Bounded.{allBelow};
 ghost use Rattle.place.specs.Input.{placeOf};
 ghost use Rattle.state.specs.declared.Register.the-variants.{Packet};
 ghost use Rattle.state.specs.Layout.{headerSize, flowSize, registerSize, flowPlace};
-ghost use Rattle.state.specs.Read.{sxIn, syIn, countIn, routerIn};
-ghost use Rattle.state.specs.Forms.{headerFits, numbersFit, tallyFits, flowFits, FlowsFit, contentsFit, registerFits, cellFits, restFits, sizeIn, stateNumber};
+ghost use Rattle.state.specs.Read.{sxIn, syIn, routerIn};
+ghost use Rattle.state.specs.Forms.{headerFits, numbersFit, tallyFits, flowFits, FlowsFit, contentsFit, registerFits, cellFits, sizeIn, stateNumber};
 
 // Some words from a place on are 0.
 fn are_zero(w: &[u32], at: usize, count: usize) -> bool

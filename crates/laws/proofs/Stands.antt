@@ -7,7 +7,7 @@ use native.Mathlib.Nat.{add-zero, zero-add, add-suc, add-assoc, eq-or-lt-of-le, 
 use native.Mathlib.Decide.{decLt}
 use native.Mathlib.Numerals.{add-one}
 use native.Mathlib.Omega.{arith}
-use lib.ListN.{length, getD, take, drop, set, length-append, length-set, length-take, take-append-drop, List·getD-append}
+use lib.ListN.{length, getD, take, drop, set, length-append, length-set, take-append-drop, List·getD-append}
 use lib.Seq.{sets, length-sets, ext-getD, getD-take, getD-append-add, getD-set-same, getD-set-other, length-take-le}
 use Rattle.laws.specs.Bounded.{tabulate}
 use Rattle.laws.specs.Count.{joinBelow}

@@ -1,12 +1,12 @@
 -- What an accepted reset leaves: words that form a state, with the file's plan. Rests on the laws of a state's words.
 use mathlib.Core.Bool.{true}
-use mathlib.Core.List.{List, _++_}
-use mathlib.Core.Path.{_≡_, refl, sym, ap, _∙_}
-use Prim.Native.Nat.{ℕ, _+_, _*_, _≤_, _<_}
+use mathlib.Core.List.{List}
+use mathlib.Core.Path.{_≡_, refl, ap}
+use Prim.Native.Nat.{ℕ, _≤_, _<_}
 use native.Mathlib.Decide.{decLe}
 use native.Mathlib.Omega.{arith}
 use borrow.Author.Tests.{lt-ltb, le-ltb, le-leb, eq-eqb}
-use lib.ListN.{length, drop}
+use lib.ListN.{length}
 use Rattle.laws.proofs.Bounded.{getD-tabulate}
 use Rattle.laws.proofs.Stands.{Stands, stands-first}
 use Rattle.laws.proofs.Grid.{getD-grid}
@@ -17,11 +17,11 @@ use Rattle.plan.specs.Layout.{planOf}
 use Rattle.plan.specs.Refusals.{planAnswer}
 use Rattle.plan.proofs.Ranges.{Bytes, plan-ok}
 use Rattle.book.specs.Line.{W, N}
-use Rattle.state.specs.State.{State, tallyAt, cellAt, freshTally, emptyCell, resetState}
+use Rattle.state.specs.State.{tallyAt, cellAt, freshTally, emptyCell, resetState}
 use Rattle.state.specs.Words.{stateWords}
 use Rattle.state.specs.Read.{planIn}
 use Rattle.state.specs.Forms.{tallyFits, stateNumber}
-use Rattle.state.specs.Outcome.{Outcome, outcome, refused, unlessRefused, over}
+use Rattle.state.specs.Outcome.{Outcome, unlessRefused, over}
 use Rattle.state.specs.Calls.{planSize, resetOn}
 use Rattle.state.proofs.Read.{plan-read}
 use Rattle.state.proofs.Formed.{StateOk, registerOk, words-form}

@@ -1,14 +1,12 @@
 -- The words of a reset state, part by part. Rests on specs/Fresh and the laws of a state's words.
 use mathlib.Core.List.{List, [], _∷_, _++_}
 use mathlib.Core.Path.{_≡_, refl, sym, ap, _∙_}
-use Prim.Native.Nat.{ℕ, _+_, _*_, _≤_, _<_}
+use Prim.Native.Nat.{ℕ, _+_, _*_, _≤_}
 use native.Mathlib.Nat.{zero-add}
 use native.Mathlib.Omega.{arith}
-use lib.ListN.{length, getD}
+use lib.ListN.{length}
 use lib.Seq.{sets}
-use Rattle.laws.specs.Bounded.{tabulate}
 use Rattle.laws.specs.Count.{joinBelow}
-use Rattle.laws.specs.Grid.{grid, cellIndex}
 use Rattle.laws.proofs.Bounded.{length-tabulate, getD-tabulate}
 use Rattle.laws.proofs.Stands.{length-join, join-same, sets-append}
 use Rattle.laws.proofs.Grid.{getD-grid, join-rows, rows}

@@ -16,7 +16,7 @@ ghost use Rattle.state.specs.Layout.{headerSize, flowSize, routerSize, flowPlac
 ghost use Rattle.state.specs.State.{emptyCell};
 ghost use Rattle.state.specs.Words.{cellWords};
 ghost use Rattle.state.specs.Outcome.{outcome};
-ghost use Rattle.state.specs.Calls.{planSize, resetOn};
+ghost use Rattle.state.specs.Calls.{resetOn};
 ghost use Rattle.reset.specs.Fresh.{freshWords, freshOn};
 
 // Writes Sx, Sy, F, clock 0 and the four zeros.

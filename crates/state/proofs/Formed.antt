@@ -1,8 +1,8 @@
 -- The words of a state whose numbers fit form a state. Rests on Read and specs/Forms.
-use mathlib.Core.Bool.{Bool, true, false, _&&_, cond}
+use mathlib.Core.Bool.{Bool, true, _&&_}
 use mathlib.Core.List.{List}
-use mathlib.Core.Path.{_≡_, refl, sym, ap, _∙_}
-use Prim.Native.Nat.{ℕ, _+_, _-_, _*_, _≤_, _<_}
+use mathlib.Core.Path.{_≡_, ap, _∙_}
+use Prim.Native.Nat.{ℕ, _+_, _-_, _≤_, _<_}
 use native.Mathlib.Omega.{arith}
 use borrow.Author.Tests.{lt-ltb, le-leb, le-ltb, eq-eqb, ltb-true}
 use lib.Dec.{ltb, leb, eqb}
@@ -20,7 +20,7 @@ use Rattle.state.specs.declared.Register.the-variants.{Empty, Packet}
 use Rattle.state.specs.Layout.{headerSize, registerSize, flowPlace, routerPlace}
 use Rattle.state.specs.State.{State, tallyAt, cellAt}
 use Rattle.state.specs.Words.{registerWords, cellWords, stateWords}
-use Rattle.state.specs.Read.{sxIn, syIn, countIn, clockIn, flowIn, tallyIn, registerIn, routerIn}
+use Rattle.state.specs.Read.{sxIn, syIn, countIn}
 use Rattle.state.specs.Forms.{headerFits, numbersFit, tallyFits, flowFits, contentsFit, registerFits, cellFits, restFits, sizeIn, stateNumber}
 use Rattle.state.proofs.Words.{length-words, cell-stands}
 use Rattle.state.proofs.Read.{head, part, west-part, north-part, register-read, sx-read, sy-read, count-read, clock-read, flow-at-read, tally-at-read}

@@ -1,7 +1,7 @@
 -- What was written is read back: the state that words have, by the parts that stand in them. Rests on Words and specs/Read.
 use mathlib.Core.List.{List, _++_}
 use mathlib.Core.Path.{_≡_, refl, sym, ap, _∙_}
-use Prim.Native.Nat.{ℕ, _+_, _-_, _*_, _≤_, _<_}
+use Prim.Native.Nat.{ℕ, _+_, _-_, _*_, _<_}
 use native.Mathlib.Nat.{add-zero, zero-add}
 use native.Mathlib.Omega.{arith}
 use borrow.Author.Tests.{ne-eqb}
@@ -12,12 +12,12 @@ use Rattle.laws.proofs.Bounded.{is-tabulate}
 use Rattle.laws.proofs.Stands.{Stands, stands-in, stands-first, stands-after}
 use Rattle.laws.proofs.Grid.{is-grid}
 use Rattle.flow.specs.declared.Flow.{Flow}
-use Rattle.flow.specs.Plan.{Plan, flowAt, noFlow}
+use Rattle.flow.specs.Plan.{flowAt, noFlow}
 use Rattle.state.specs.declared.Register.{Register}
 use Rattle.state.specs.declared.Register.the-variants.{Empty, Packet}
 use Rattle.state.specs.declared.Tally.{Tally}
 use Rattle.state.specs.declared.Cell.{Cell}
-use Rattle.state.specs.Layout.{registerSize, flowPlace, routerPlace}
+use Rattle.state.specs.Layout.{registerSize, flowPlace}
 use Rattle.state.specs.State.{State, tallyAt, cellAt, freshTally, emptyCell}
 use Rattle.state.specs.Words.{headerWords, flowWords, registerWords, cellWords, stateWords}
 use Rattle.state.specs.Read.{sxIn, syIn, countIn, clockIn, flowIn, tallyIn, registerIn, cellIn, routerIn, planIn, stateOf}

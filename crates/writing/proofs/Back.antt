@@ -1,6 +1,6 @@
 -- For every file that reset accepts: writing the state that it left, with the file's notes, gives the file's bytes back.
 use mathlib.Core.List.{List}
-use mathlib.Core.Path.{_≡_, refl, sym, ap, _∙_}
+use mathlib.Core.Path.{_≡_}
 use Prim.Native.Nat.{ℕ, _≤_}
 use borrow.Author.Tests.{le-ltb}
 use lib.ListN.{length}
@@ -8,7 +8,6 @@ use Rattle.plan.specs.declared.Answer.the-variants.{Done}
 use Rattle.plan.specs.Layout.{mostFile, planOf}
 use Rattle.plan.specs.Refusals.{planAnswer}
 use Rattle.plan.specs.Notes.{notesOf}
-use Rattle.plan.specs.Written.{planBytes}
 use Rattle.plan.proofs.Accepted.{done-trailed}
 use Rattle.plan.proofs.Ranges.{Bytes}
 use Rattle.plan.proofs.Written.{written-back}
@@ -16,7 +15,7 @@ use Rattle.state.specs.Read.{planIn}
 use Rattle.state.specs.Forms.{stateNumber}
 use Rattle.state.specs.Outcome.{outcome, unless, over}
 use Rattle.state.specs.Calls.{resetOn, writeOn}
-use Rattle.reset.proofs.Accepted.{Accepted, accepted, reset-forms, reset-plan}
+use Rattle.reset.proofs.Accepted.{accepted, reset-forms, reset-plan}
 
 -- any words that form a state with an accepted file's plan numbers give that file, whatever their clock, tallies and registers
 pub file-back : (file words target : List ℕ) (v : ℕ) → Bytes file → planAnswer file ≡ Done v

@@ -1,7 +1,6 @@
 -- `reset`: a refused file changes nothing; an accepted one has a trailer that is not refused.
-use mathlib.Core.Path.{_≡_, sym, _∙_}
+use mathlib.Core.Path.{sym, _∙_}
 use borrow.Author.Needs.{needs}
-use Rattle.plan.specs.Refusals.{trailerNumber, planAnswer}
 use Rattle.state.specs.Outcome.{unlessRefused}
 use Rattle.state.specs.Calls.{resetOn}
 use Rattle.reset.proofs.Fresh.{done-number}

@@ -1,15 +1,12 @@
 -- `put_notes`: a run of stores that grows by a byte in each turn.
-use mathlib.Core.List.{[], _∷_}
-use mathlib.Core.Path.{_≡_, refl, sym, ap, _∙_}
-use Prim.Native.Nat.{ℕ, _+_, _-_, _≤_}
+use mathlib.Core.List.{List, [], _∷_}
+use mathlib.Core.Path.{_≡_, refl}
+use Prim.Native.Nat.{ℕ, _+_, _-_, _≤_, _<_}
 use native.Mathlib.Nat.{zero-add}
 use native.Mathlib.Numerals.{add-one}
 use native.Mathlib.Omega.{arith}
-use lib.ListN.{length, getD, take, length-set}
+use lib.ListN.{length, getD, take, set, length-set}
 use lib.Seq.{sets, length-take-le, take-suc, take-length}
-use mathlib.Core.List.{List}
-use lib.ListN.{set}
-use Prim.Native.Nat.{_<_}
 use Rattle.laws.proofs.Stands.{sets-append}
 use Rattle.writing.proofs.put_notes.Statement.{statement}
 use Rattle.writing.proofs.put_notes.Tie as tie

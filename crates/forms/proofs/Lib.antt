@@ -1,1 +1,0 @@
--- The check of a state's words rests on the laws of crate state.
