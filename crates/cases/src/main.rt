@@ -1,5 +1,4 @@
 // The cases of 01 that are run: each line says what was asked and what was answered, and stdout has what it must be.
-ghost use Prim.Native.Nat.{_+_, _≤_};
 use libc::STDOUT_FILENO;
 use plan::Answer;
 
@@ -29,127 +28,416 @@ fn told(asked: &[u8], answer: Answer) {
     text(b"\n");
 }
 
-// A line with the first n of five delivered words.
-fn delivered(asked: &[u8], delivery: &[u32; 80]) {
-    text(asked);
-    text(b":");
-    for i in 0..5 {
-        text(b" ");
-        number(delivery[i]);
+// A line with the first five words of a delivery memory.
+fn delivered(asked: &[u8], delivery: &[u32]) {
+    if delivery.len() < 5 {
+        return;
     }
+    text(asked);
+    text(b": ");
+    number(delivery[0]);
+    text(b" ");
+    number(delivery[1]);
+    text(b" ");
+    number(delivery[2]);
+    text(b" ");
+    number(delivery[3]);
+    text(b" ");
+    number(delivery[4]);
     text(b"\n");
 }
 
-// A plan file of one flow, period 10 and burst 1.
-fn plan_of(sx: u8, sy: u8, xs: u8, ys: u8, xd: u8, yd: u8) -> [u8; 20] {
+// A plan file of one flow, period 10 and burst 1: the first 20 bytes.
+fn plan_of(sx: u8, sy: u8, xs: u8, ys: u8, xd: u8, yd: u8) -> [u8; 28] {
     [
-        xs, ys, xd, yd, 10, 0, 1, 0, 0, 0, 0, 0, 1, 0, sx, sy, 72, 82, 84, 80,
+        xs,
+        ys,
+        xd,
+        yd,
+        10,
+        0,
+        1,
+        0,
+        0,
+        0,
+        0,
+        0,
+        1,
+        0,
+        sx,
+        sy,
+        72,
+        82,
+        84,
+        80,
+        0,
+        0,
+        0,
+        0,
+        0,
+        0,
+        0,
+        0,
     ]
 }
 
-// A plan file of two flows on 4 by 4, the first to its east neighbour, with the given bytes of their records changed.
-fn pair_of(period: u8, burst: u8, last: u8, xd: u8) -> [u8; 28] {
+// The same with another start and count.
+fn with_trailer(start: u8, low: u8, high: u8) -> [u8; 28] {
     [
-        1, 0, 2, 0, 10, 0, 1, last, 0, 0, xd, 0, period, 0, burst, 0, 0, 0, 0, 0, 2, 0, 4, 4, 72, 82, 84, 80,
+        1,
+        0,
+        2,
+        0,
+        10,
+        0,
+        1,
+        0,
+        start,
+        0,
+        0,
+        0,
+        low,
+        high,
+        4,
+        4,
+        72,
+        82,
+        84,
+        80,
+        0,
+        0,
+        0,
+        0,
+        0,
+        0,
+        0,
+        0,
     ]
+}
+
+// A plan file of two flows on 4 by 4: the last byte of the first record, then xd, period and burst of the second.
+fn pair_of(last: u8, xd: u8, period: u8, burst: u8) -> [u8; 28] {
+    [
+        1,
+        0,
+        2,
+        0,
+        10,
+        0,
+        1,
+        last,
+        0,
+        0,
+        xd,
+        0,
+        period,
+        0,
+        burst,
+        0,
+        0,
+        0,
+        0,
+        0,
+        2,
+        0,
+        4,
+        4,
+        72,
+        82,
+        84,
+        80,
+    ]
+}
+
+// A word of the state is changed.
+fn put(words: &mut [u32], at: usize, value: u32) {
+    if at < words.len() {
+        words[at] = value;
+    }
+}
+
+// Each call is made on the first n bytes or words of what is lent.
+fn read(asked: &[u8], file: &[u8], n: usize) {
+    if n <= file.len() {
+        told(asked, plan::answer_of(&file[..n]));
+    }
+}
+
+fn window(asked: &[u8], file: &[u8], n: usize, flow: u32) {
+    if n <= file.len() {
+        told(asked, bounds::window(&file[..n], flow));
+    }
+}
+
+fn flight(asked: &[u8], file: &[u8], n: usize, flow: u32) {
+    if n <= file.len() {
+        told(asked, bounds::flight(&file[..n], flow));
+    }
+}
+
+fn reset_first(asked: &[u8], file: &[u8], bytes: usize, words: &mut [u32], n: usize) {
+    if file.len() < bytes {
+        return;
+    }
+    if n <= words.len() {
+        told(asked, reset::reset(&file[..bytes], &mut words[..n]));
+    }
+}
+
+fn offer(asked: &[u8], words: &mut [u32], n: usize, flow: u32) {
+    if n <= words.len() {
+        told(asked, cycle::offer(&mut words[..n], flow));
+    }
+}
+
+fn step(asked: &[u8], words: &mut [u32], delivery: &mut [u32], n: usize) {
+    if n <= delivery.len() {
+        told(asked, cycle::step(words, &mut delivery[..n]));
+    }
+}
+
+fn write(
+    asked: &[u8],
+    words: &[u32],
+    n: usize,
+    notes: &[u8],
+    length: usize,
+    target: &mut [u8],
+    room: usize,
+) {
+    if words.len() < n {
+        return;
+    }
+    if notes.len() < length {
+        return;
+    }
+    if room <= target.len() {
+        told(
+            asked,
+            writing::write(&words[..n], &notes[..length], &mut target[..room]),
+        );
+    }
 }
 
 fn reading() {
     let file = plan_of(4, 4, 1, 0, 2, 0);
-    told(b"11 bytes", plan::answer_of(&file[..11]));
-    told(b"20 bytes", plan::answer_of(&file));
+    read(b"11 bytes", &file, 11);
+    read(b"20 bytes", &file, 20);
     let long = [0u8; 65537];
-    told(b"65,537 bytes", plan::answer_of(&long));
-    told(b"65,536 bytes without the tag", plan::answer_of(&long[..65536]));
-    told(b"Sx 16", plan::answer_of(&plan_of(16, 4, 1, 0, 2, 0)));
-    told(b"Sx 17", plan::answer_of(&plan_of(17, 4, 1, 0, 2, 0)));
-    told(b"Sy 0", plan::answer_of(&plan_of(4, 0, 1, 0, 2, 0)));
-    let mut counted = file;
-    counted[12] = 0;
-    told(b"count 0", plan::answer_of(&counted));
-    counted[13] = 1;
-    told(b"count 256 in 20 bytes", plan::answer_of(&counted));
-    counted[12] = 1;
-    told(b"count 257", plan::answer_of(&counted));
-    let mut started = file;
-    started[8] = 1;
-    told(b"start 1 without notes", plan::answer_of(&started));
-    told(b"a column off the torus", plan::answer_of(&plan_of(4, 4, 1, 0, 4, 0)));
-    told(b"flow 1 off the torus", plan::answer_of(&pair_of(10, 1, 0, 4)));
-    told(b"flow 1 with period 0", plan::answer_of(&pair_of(0, 1, 0, 3)));
-    told(b"flow 1 with burst 0", plan::answer_of(&pair_of(10, 0, 0, 3)));
-    told(b"flow 0 with a last byte, flow 1 off the torus", plan::answer_of(&pair_of(10, 1, 9, 4)));
+    read(b"65,537 bytes", &long, 65537);
+    read(b"65,536 bytes without the tag", &long, 65536);
+    read(b"Sx 16", &plan_of(16, 4, 1, 0, 2, 0), 20);
+    read(b"Sx 17", &plan_of(17, 4, 1, 0, 2, 0), 20);
+    read(b"Sy 0", &plan_of(4, 0, 1, 0, 2, 0), 20);
+}
+
+// The count's two bytes stand at 12 and 13.
+fn counts() {
+    read(b"count 0", &with_trailer(0, 0, 0), 20);
+    read(b"count 256 in 20 bytes", &with_trailer(0, 0, 1), 20);
+    read(b"count 257", &with_trailer(0, 1, 1), 20);
+}
+
+fn starts() {
+    read(b"start 1 without notes", &with_trailer(1, 1, 0), 20);
+}
+
+fn flows() {
+    read(b"a column off the torus", &plan_of(4, 4, 1, 0, 4, 0), 20);
+    read(b"flow 1 off the torus", &pair_of(0, 4, 10, 1), 28);
+    read(b"flow 1 with period 0", &pair_of(0, 3, 0, 1), 28);
+    read(b"flow 1 with burst 0", &pair_of(0, 3, 10, 0), 28);
+    read(
+        b"flow 0 with a last byte, flow 1 off the torus",
+        &pair_of(9, 4, 10, 1),
+        28,
+    );
 }
 
 fn windows() {
-    let file = pair_of(10, 1, 0, 3);
-    told(b"window of flow 0", bounds::window(&file, 0));
-    told(b"window of flow 1", bounds::window(&file, 1));
-    told(b"window of flow 2 of two", bounds::window(&file, 2));
-    told(b"window beside period 1", bounds::window(&pair_of(1, 1, 0, 3), 0));
-    told(b"window in no plan", bounds::window(&file[..27], 0));
-    told(b"flight bound of flow 1", bounds::flight(&file, 1));
-    told(b"flight bound of flow 2 of two", bounds::flight(&file, 2));
-    told(b"flight bound beside period 1", bounds::flight(&pair_of(1, 1, 0, 3), 0));
+    let file = pair_of(0, 3, 10, 1);
+    window(b"window of flow 0", &file, 28, 0);
+    window(b"window of flow 1", &file, 28, 1);
+    window(b"window of flow 2 of two", &file, 28, 2);
+    window(b"window in no plan", &file, 27, 0);
+    window(b"window beside period 1", &pair_of(0, 3, 1, 1), 28, 0);
 }
 
-fn states() {
+fn flights() {
+    let file = pair_of(0, 3, 10, 1);
+    flight(b"flight bound of flow 1", &file, 28, 1);
+    flight(b"flight bound of flow 2 of two", &file, 28, 2);
+    flight(b"flight bound beside period 1", &pair_of(0, 3, 1, 1), 28, 0);
+}
+
+// A state of one flow on 4 by 4 has 8 + 10 + 8×4×4 = 146 words, and a step asks for 5×4×4 = 80.
+fn resets(words: &mut [u32]) {
     let file = plan_of(4, 4, 1, 0, 2, 0);
-    let mut words = [7u32; 146];
-    let mut delivery = [0u32; 80];
-    told(b"reset of 145 words", reset::reset(&file, &mut words[..145]));
-    told(b"offer to words that are no state", cycle::offer(&mut words, 0));
-    told(b"reset of 146 words", reset::reset(&file, &mut words));
-    told(b"reset by no plan", reset::reset(&file[..19], &mut words));
-    told(b"offer lent 7 words", cycle::offer(&mut words[..7], 0));
-    told(b"offer lent 145 words", cycle::offer(&mut words[..145], 0));
-    told(b"offer to flow 1 of one", cycle::offer(&mut words, 1));
-    told(b"step with 79 words of delivery memory", cycle::step(&mut words, &mut delivery[..79]));
-    told(b"step with 80 words of delivery memory", cycle::step(&mut words, &mut delivery));
-    words[4] = 1;
-    told(b"step with a zero word that is 1", cycle::step(&mut words, &mut delivery));
-    words[4] = 0;
-    words[17] = 65534;
-    told(b"offer at 65,534 waiting", cycle::offer(&mut words, 0));
-    told(b"offer at 65,535 waiting", cycle::offer(&mut words, 0));
-    words[17] = 0;
-    words[3] = 4294967294;
-    told(b"step at clock 4,294,967,294", cycle::step(&mut words, &mut delivery));
-    told(b"step at clock 4,294,967,295", cycle::step(&mut words, &mut delivery));
+    reset_first(b"reset of 145 words", &file, 20, words, 145);
+    offer(b"offer to words that are no state", words, 146, 0);
+    reset_first(b"reset of 146 words", &file, 20, words, 146);
+}
+
+fn refused_offers(words: &mut [u32]) {
+    offer(b"offer lent 7 words", words, 7, 0);
+    offer(b"offer lent 145 words", words, 145, 0);
+    offer(b"offer to flow 1 of one", words, 146, 1);
+}
+
+fn steps(words: &mut [u32], delivery: &mut [u32]) {
+    step(
+        b"step with 79 words of delivery memory",
+        words,
+        delivery,
+        79,
+    );
+    step(
+        b"step with 80 words of delivery memory",
+        words,
+        delivery,
+        80,
+    );
+}
+
+// The same state with some of its words changed: 3 is the clock, 4 a zero, 17 the flow's waiting.
+fn zero_word(words: &mut [u32], delivery: &mut [u32]) {
+    put(words, 4, 1);
+    step(b"step with a zero word that is 1", words, delivery, 80);
+    put(words, 4, 0);
+}
+
+fn last_offers(words: &mut [u32]) {
+    put(words, 17, 65534);
+    offer(b"offer at 65,534 waiting", words, 146, 0);
+    offer(b"offer at 65,535 waiting", words, 146, 0);
+}
+
+fn last_cycles(words: &mut [u32], delivery: &mut [u32]) {
+    put(words, 3, 4294967294);
+    step(b"step at clock 4,294,967,294", words, delivery, 80);
+    step(b"step at clock 4,294,967,295", words, delivery, 80);
 }
 
 // An offer and a step of a flow to its own client: it exits in its entry cycle.
-fn alone(asked: &[u8], sx: u8, sy: u8, x: u8, y: u8) {
-    let file = plan_of(sx, sy, x, y, x, y);
-    let mut words = [0u32; 146];
-    let mut delivery = [9u32; 80];
-    told(asked, reset::reset(&file, &mut words));
-    told(b"  offer", cycle::offer(&mut words, 0));
-    told(b"  step", cycle::step(&mut words, &mut delivery));
-    delivered(b"  delivered", &delivery);
+fn alone(asked: &[u8], sx: u8, sy: u8, x: u8, y: u8, words: &mut [u32], delivery: &mut [u32]) {
+    reset_first(asked, &plan_of(sx, sy, x, y, x, y), 20, words, 146);
+    offer(b"  offer", words, 146, 0);
+    step(b"  step", words, delivery, 80);
+    delivered(b"  delivered", delivery);
 }
 
-fn writing_back() {
-    let file = plan_of(4, 4, 1, 0, 2, 0);
-    let mut words = [0u32; 146];
-    let mut target = [0u8; 24];
-    let notes = [33u8; 65517];
-    told(b"reset to write", reset::reset(&file, &mut words));
-    told(b"write with 4 bytes of notes into 23 bytes", writing::write(&words, &notes[..4], &mut target[..23]));
-    told(b"write with 4 bytes of notes into 24 bytes", writing::write(&words, &notes[..4], &mut target));
-    told(b"reading what was written", plan::answer_of(&target));
-    told(b"write with 65,517 bytes of notes", writing::write(&words, &notes, &mut target));
-    told(b"write with 65,516 bytes of notes into 24 bytes", writing::write(&words, &notes[..65516], &mut target));
-    told(b"write from 145 words", writing::write(&words[..145], &notes[..4], &mut target));
+fn into_little(words: &[u32], notes: &[u8], target: &mut [u8]) {
+    write(
+        b"write with 4 bytes of notes into 23 bytes",
+        words,
+        146,
+        notes,
+        4,
+        target,
+        23,
+    );
+    write(
+        b"write with 4 bytes of notes into 24 bytes",
+        words,
+        146,
+        notes,
+        4,
+        target,
+        24,
+    );
+    read(b"reading what was written", target, 24);
+}
+
+fn from_much(words: &[u32], notes: &[u8], target: &mut [u8]) {
+    write(
+        b"write with 65,517 bytes of notes",
+        words,
+        146,
+        notes,
+        65517,
+        target,
+        24,
+    );
+    write(
+        b"write with 65,516 bytes of notes into 24 bytes",
+        words,
+        146,
+        notes,
+        65516,
+        target,
+        24,
+    );
+    write(b"write from 145 words", words, 145, notes, 4, target, 24);
+}
+
+fn states(words: &mut [u32], delivery: &mut [u32]) {
+    resets(words);
+    refused_offers(words);
+    steps(words, delivery);
+}
+
+fn limits(words: &mut [u32], delivery: &mut [u32]) {
+    zero_word(words, delivery);
+    last_offers(words);
+    last_cycles(words, delivery);
+}
+
+fn squares(words: &mut [u32], delivery: &mut [u32]) {
+    alone(
+        b"a flow to its own client on 4 by 4",
+        4,
+        4,
+        2,
+        2,
+        words,
+        delivery,
+    );
+    alone(b"1 by 1", 1, 1, 0, 0, words, delivery);
+}
+
+fn rows_and_columns(words: &mut [u32], delivery: &mut [u32]) {
+    alone(b"Sx 1", 1, 4, 0, 3, words, delivery);
+    alone(b"Sy 1", 4, 1, 3, 0, words, delivery);
+}
+
+fn writing_back(words: &mut [u32], notes: &[u8], target: &mut [u8]) {
+    reset_first(
+        b"reset to write",
+        &plan_of(4, 4, 1, 0, 2, 0),
+        20,
+        words,
+        146,
+    );
+    into_little(words, notes, target);
+    from_much(words, notes, target);
+}
+
+fn engine_runs(words: &mut [u32], delivery: &mut [u32]) {
+    states(words, delivery);
+    limits(words, delivery);
+}
+
+fn sizes_of_one(words: &mut [u32], delivery: &mut [u32]) {
+    squares(words, delivery);
+    rows_and_columns(words, delivery);
+}
+
+fn run(words: &mut [u32], delivery: &mut [u32], notes: &[u8], target: &mut [u8]) {
+    engine_runs(words, delivery);
+    sizes_of_one(words, delivery);
+    writing_back(words, notes, target);
 }
 
 fn main() {
+    let mut words = [7u32; 146];
+    let mut delivery = [9u32; 80];
+    let notes = [33u8; 65517];
+    let mut target = [0u8; 24];
     reading();
+    counts();
+    starts();
+    flows();
     windows();
-    states();
-    alone(b"a flow to its own client on 4 by 4", 4, 4, 2, 2);
-    alone(b"1 by 1", 1, 1, 0, 0);
-    alone(b"Sx 1", 1, 4, 0, 3);
-    alone(b"Sy 1", 4, 1, 3, 0);
-    writing_back();
+    flights();
+    run(&mut words, &mut delivery, &notes, &mut target);
 }

@@ -92,11 +92,11 @@ module _ (p : Plan) (b : Book) (k : Kept p b) where
   unfolding nextCell bookState
   next-cell x y lx ly =
       let west =
-          ap (λ (u : ℕ). registerOf (stepped p b) (W u y)) (sym (next-previous (p .sx) x lx))
-          ∙ west-next (previous (p .sx) x) y (previous-below (p .sx) x lx) ly in
+      ap (λ (u : ℕ). registerOf (stepped p b) (W u y)) (sym (next-previous (p .sx) x lx))
+      ∙ west-next (previous (p .sx) x) y (previous-below (p .sx) x lx) ly in
       let north =
-          ap (λ (v : ℕ). registerOf (stepped p b) (N x v)) (sym (next-previous (p .sy) y ly))
-          ∙ north-next x (previous (p .sy) y) lx (previous-below (p .sy) y ly) in
+      ap (λ (v : ℕ). registerOf (stepped p b) (N x v)) (sym (next-previous (p .sy) y ly))
+      ∙ north-next x (previous (p .sy) y) lx (previous-below (p .sy) y ly) in
       sym (λ i. record { west = west i; north = north i })
 
   -- a flow that enters has one waiting line less

@@ -1,0 +1,10 @@
+-- `read`: the part that is lent is as long as it was asked for.
+use mathlib.Core.Path.{sym}
+use native.Mathlib.Omega.{arith}
+use borrow.Author.Needs.{needs}
+use lib.Seq.{length-take-le}
+use Rattle.cases.proofs.read.Statement.{statement}
+use Rattle.cases.proofs.read.Tie as tie
+
+pub read-spec : {M : Type 1} → statement M
+read-spec = tie.close (tie.spec (λ c. sym (length-take-le _ _ (omega arith))) (λ c. search needs) (λ c. search needs) (λ c. search needs) (λ c. search needs))
