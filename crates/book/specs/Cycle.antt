@@ -13,8 +13,14 @@ use Rattle.flow.specs.declared.Port.the-variants.{East, South}
 use Rattle.flow.specs.Offsets.{portOf, sameClient}
 use Rattle.flow.specs.Plan.{Plan, flowAt}
 use Rattle.bucket.specs.Regulator.{afterCycle}
-use Rattle.book.specs.Line.{Place, W, N, columnOf, rowOf, Stage, waiting, placed, left, Line, standsIn, leftAt, isWaiting, entryOf, exitOf}
+use Rattle.book.specs.Line.{Place, W, N, columnOf, rowOf, Stage, waiting, placed, left, Line, standsIn, leftAt, entryOf, exitOf}
 use Rattle.book.specs.Book.{Book, bucketAt, waitsFor}
+
+abbrev pub samePort : Port → Port → Bool
+samePort East East = true
+samePort East South = false
+samePort South East = false
+samePort South South = true
 
 -- a register holds a packet
 abbrev pub full : Book → Place → Bool
@@ -79,6 +85,17 @@ moveStage p b l (placed e at) =
     let φ : Flow = flowAt p (l .flow) in
     sent p φ (b .clock) e (columnOf at) (rowOf at) (output p b φ at)
 moveStage p b l (left e t x y) = left e t x y
+
+-- the line's packet leaves the router in column x and row y by this output in the step
+abbrev pub leaves : Plan → Book → Line → (x y : ℕ) → Port → Stage → Bool
+leaves p b l x y o waiting =
+    let φ : Flow = flowAt p (l .flow) in
+    enters p b (l .flow) && lowest b l && (eqb x (φ .xs) && eqb y (φ .ys) && samePort (portOf (p .sx) φ) o)
+leaves p b l x y o (placed e at) = eqb x (columnOf at) && eqb y (rowOf at) && samePort (output p b (flowAt p (l .flow)) at) o
+leaves p b l x y o (left e t x′ y′) = false
+
+abbrev pub leavesBy : Plan → Book → (x y : ℕ) → Port → Line → Bool
+leavesBy p b x y o l = leaves p b l x y o (l .stage)
 
 abbrev pub move : Plan → Book → Line → Line
 move p b l =

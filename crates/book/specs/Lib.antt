@@ -5,3 +5,4 @@ pub mod Cycle
 pub mod Calls
 pub mod InPlace
 pub mod Promises
+pub mod Cases

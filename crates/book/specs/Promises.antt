@@ -8,6 +8,8 @@ use lib.ListN.{length}
 use Rattle.laws.specs.Bounded.{tabulate}
 use Rattle.laws.specs.Count.{count, keep}
 use Rattle.flow.specs.declared.Flow.{Flow}
+use Rattle.flow.specs.declared.Port.{Port}
+use Rattle.flow.specs.Offsets.{sameClient}
 use Rattle.flow.specs.Plan.{Plan, flowAt}
 use Rattle.bucket.specs.Regulator.{bucketFits}
 use Rattle.window.specs.declared.Found.the-variants.{At}
@@ -15,7 +17,7 @@ use Rattle.window.specs.Window.{windowOf}
 use Rattle.window.specs.Flight.{travel, mostDeflections}
 use Rattle.book.specs.Line.{Place, columnOf, rowOf, Stage, waiting, placed, left, Line, isWaiting, isLeft, standsIn}
 use Rattle.book.specs.Book.{Book, bucketAt, ofFlow, totalOf, waitingOf, enteredOf}
-use Rattle.book.specs.Cycle.{Delivery, deliveryOf}
+use Rattle.book.specs.Cycle.{ready, enters, leavesBy, Delivery, deliveryOf}
 use Rattle.book.specs.Calls.{lastClock, mostWaiting}
 use Rattle.book.specs.InPlace.{inPlace}
 
@@ -40,11 +42,14 @@ Flies p f D clock waiting = Unit {0}
 Flies p f D clock (placed e at) = OnTorus p at × (clock ≤ e + travel (p .sx) (p .sy) f D)
 Flies p f D clock (left e t x y) = (x ≡ f .xd) × (y ≡ f .yd) × (t ≡ e + travel (p .sx) (p .sy) f D)
 
+-- two deliveries of the same five words
+abbrev pub sameWords : Delivery → Delivery → Bool
+sameWords d e =
+    eqb (d .flow) (e .flow) && eqb (d .serial) (e .serial) && eqb (d .entry) (e .entry) && eqb (d .exit) (e .exit) && eqb (d .D) (e .D)
+
 -- a delivery's five words are this line's
 abbrev pub delivers : Line → Delivery → Bool
-delivers l d =
-    let own : Delivery = deliveryOf l in
-    eqb (d .flow) (own .flow) && eqb (d .serial) (own .serial) && eqb (d .entry) (own .entry) && eqb (d .exit) (own .exit) && eqb (d .D) (own .D)
+delivers l d = sameWords d (deliveryOf l)
 
 -- the ranges of a flow's numbers in words that form a state
 pub record FlowInState (p : Plan) (b : Book) (f : ℕ) : Type 0 where
@@ -71,6 +76,10 @@ pub record Promises (p : Plan) (b : Book) (delivered : List Delivery) : Type 0 w
   pub delivered-only : (d : Delivery) → Mem d delivered → (l : Line) × Mem l (b .lines) × (isLeft (l .stage) ≡ true) × (delivers l d ≡ true)
   -- no two lines share a place
   pub apart : (at : Place) → count (λ (l : Line). standsIn at (l .stage)) (b .lines) ≤ 1
+  -- one output carries one packet
+  pub one-output : (x y : ℕ) (o : Port) → count (leavesBy p b x y o) (b .lines) ≤ 1
+  -- of one client's ready flows only the lowest-numbered enters
+  pub lowest-enters : (f g : ℕ) → enters p b f ≡ true → ready p b g ≡ true → sameClient (flowAt p f) (flowAt p g) ≡ true → f ≤ g
   -- every line is of a flow of the plan; a flow's serials are 1..n in the order of its offers, the entered ones first
   pub known : (l : Line) → Mem l (b .lines) → l .flow < length (p .flows)
   pub numbered : (f : ℕ) → map (λ (l : Line). l .serial) (keep (ofFlow f) (b .lines)) ≡ tabulate (totalOf b f) (λ i. i + 1)

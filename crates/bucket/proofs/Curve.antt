@@ -1,7 +1,8 @@
--- Laws of the curve: it never falls with the span, never rises with the period, and is at most burst and span together.
+-- Laws of the curve: it never falls with the span, never rises with the period, is at most burst and span together, and
+-- keeps pace with one packet a period.
 -- Rests on specs/Curve; windows use these laws and never open it.
 use Prim.Native.Nat.{ℕ, zero, suc, _+_, _*_, _/_, _≤_, _<_}
-use native.Mathlib.Nat.{div-zero, div-le-self, div-mul-le-self, le-div-iff-mul-le, mul-le-mul-left, le-trans}
+use native.Mathlib.Nat.{div-zero, div-le-self, div-mul-le-self, le-div-iff-mul-le, mul-le-mul-left, le-trans, lt-div-mul-add, add-mul, mul-le-mul-right}
 use native.Mathlib.Omega.{arith}
 use Rattle.bucket.specs.Curve.{curve}
 
@@ -25,3 +26,7 @@ curve-period burst d h l = omega (arith, div-period d h l)
 pub curve-most : (burst period d : ℕ) → curve burst period d ≤ burst + d
 unfolding curve
 curve-most burst period d = omega (arith, div-le-self d period)
+
+pub curve-pace : (burst period d : ℕ) → 1 ≤ burst → 1 ≤ period → d < curve burst period d * period
+unfolding curve
+curve-pace burst period d b p = omega (arith, lt-div-mul-add {a = d} {b = period} p, add-mul burst (d / period) period, mul-le-mul-right period b)

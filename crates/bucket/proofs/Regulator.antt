@@ -2,8 +2,8 @@
 -- They alone open the bucket; what they rest on from reset is `Regulated`, whose fields nobody else reads.
 use mathlib.Core.Bool.{Bool, true, false, cond}
 use mathlib.Core.Logic.{_⊎_, inl, inr}
-use mathlib.Core.Path.{_≡_, refl, sym, ap, _∙_}
-use Prim.Native.Nat.{ℕ, zero, suc, _+_, _-_, _*_, _/_, _≤_, _<_}
+use mathlib.Core.Path.{_≡_, refl, ap, _∙_}
+use Prim.Native.Nat.{ℕ, _+_, _-_, _*_, _≤_, _<_}
 use native.Mathlib.Nat.{le-div-iff-mul-le, mul-le-mul-right}
 use native.Mathlib.Decide.{ℕ-discrete, decLe, decLt}
 use native.Mathlib.Omega.{arith}
@@ -101,9 +101,16 @@ module _ (burst period : ℕ) where
     cycled true token =
         let some : 1 ≤ b .tokens = token refl in
         let m : b .tokens - 1 ≤ burst = omega (arith, held .tokens-most) in
-        let ran′ = ran (afterSpend b) _ (counted (afterSpend b) m (held .count-below)) m (held .count-below) (λ x. absurd (omega (arith, held .tokens-most))) (inl (omega (arith, held .tokens-most))) in
+        let room : b .tokens - 1 < burst = omega (arith, held .tokens-most) in
+        let ran′ = ran (afterSpend b) _ (counted (afterSpend b) m (held .count-below)) m (held .count-below) (λ x. absurd (omega arith)) (inl room) in
         let spent : b .tokens * period ≡ (b .tokens - 1 + 1) * period = ap (λ (x : ℕ). x * period) (omega arith) in
-        record { tokens-most = ran′ .tokens-most; count-below = ran′ .count-below; rests = ran′ .rests; fill-more = omega (arith, ran′ .fill-more); filled = ran′ .filled }
+        record {
+          tokens-most = ran′ .tokens-most;
+          count-below = ran′ .count-below;
+          rests = ran′ .rests;
+          fill-more = omega (arith, ran′ .fill-more);
+          filled = ran′ .filled;
+        }
     cycled false token = ran b _ (counted b (held .tokens-most) (held .count-below)) (held .tokens-most) (held .count-below) (held .rests) (inr (held .filled))
 
     -- a cycle, and the entries so far with the one of this cycle
@@ -180,7 +187,8 @@ module _ (burst period : ℕ) where
     unfolding afterCycle
     wait-less h none = less (counted b (held .tokens-most) (held .count-below)) (wait-cases (afterCount burst period b)) (wait-cases b)
       where
-        less : Counted burst period b (afterCount burst period b) → Waits (afterCount burst period b) → Waits b → wait period (afterCount burst period b) + 1 ≡ wait period b
+        less : Counted burst period b (afterCount burst period b) → Waits (afterCount burst period b) → Waits b
+            → wait period (afterCount burst period b) + 1 ≡ wait period b
         less (gives l e t c) (inl u) (inr v) = omega arith
         less (gives l e t c) (inr u) (inr v) = absurd (omega arith)
         less (runs l e t c) (inl u) (inr v) = absurd (omega arith)
@@ -199,10 +207,11 @@ module _ (burst period : ℕ) where
 
     pub fits : bucketFits burst period b ≡ true
     fits =
-        elim (ℕ-discrete (b .tokens) burst) [
-          | yes e ↦ rw (le-leb (b .tokens) burst (held .tokens-most), lt-ltb (b .count) period (held .count-below), eq-eqb (b .tokens) burst e, eq-eqb (b .count) 0 (held .rests e))
-          | no e ↦ rw (le-leb (b .tokens) burst (held .tokens-most), lt-ltb (b .count) period (held .count-below), ne-eqb (b .tokens) burst e)
-        ]
+        rw (le-leb (b .tokens) burst (held .tokens-most), lt-ltb (b .count) period (held .count-below))
+        (elim (ℕ-discrete (b .tokens) burst) [
+          | yes e ↦ rw (eq-eqb (b .tokens) burst e, eq-eqb (b .count) 0 (held .rests e))
+          | no e ↦ rw (ne-eqb (b .tokens) burst e)
+        ])
 
   -- at reset
   pub reset : 1 ≤ burst → 1 ≤ period → (n : ℕ → ℕ → ℕ) → n 0 0 ≡ 0 → Regulated burst period (fullBucket burst) 0 n

@@ -1,6 +1,6 @@
 // When words form a state, and what a call on a state refuses first: 8 and 9. Rests on state.
 use flow::Flow;
-use state::Input;
+use place::Input;
 use state::Register;
 use state::Tally;
 ghost use mathlib.Core.Bool.{true};
@@ -9,12 +9,11 @@ ghost use Prim.Native.Nat.{_+_, _≤_, _<_};
 ghost use lib.Dec.{eqb};
 ghost use lib.ListN.{length, getD};
 ghost use Rattle.laws.specs.Bounded.{allBelow};
-ghost use Rattle.flow.specs.Plan.{FlowOk, mostSize};
-ghost use Rattle.book.specs.InPlace.{inNorth, inFirstRow, inLaterRow, inPlace};
+ghost use Rattle.place.specs.Input.{placeOf};
 ghost use Rattle.state.specs.declared.Register.the-variants.{Packet};
 ghost use Rattle.state.specs.Layout.{headerSize, flowSize, registerSize, flowPlace};
-ghost use Rattle.state.specs.Read.{sxIn, syIn, countIn, routerIn};
-ghost use Rattle.state.specs.Forms.{placeOf, headerFits, numbersFit, tallyFits, flowFits, FlowsFit, contentsFit, registerFits, cellFits, restFits, sizeIn, stateNumber};
+ghost use Rattle.state.specs.Read.{sxIn, syIn, routerIn};
+ghost use Rattle.state.specs.Forms.{headerFits, numbersFit, tallyFits, flowFits, FlowsFit, contentsFit, registerFits, cellFits, sizeIn, stateNumber};
 
 // Some words from a place on are 0.
 fn are_zero(w: &[u32], at: usize, count: usize) -> bool
@@ -108,82 +107,6 @@ fn flows_fit(w: &[u32], count: usize) -> bool
     true
 }
 
-// In N of column x, r rows south of the source's row.
-fn in_north(sx: u32, sy: u32, f: Flow, x: u32, r: u32, d: u32, e: u32) -> bool
-    requires { ⌜ (FlowOk sx sy f) × ((sx ≤ mostSize) × (r ≤ mostSize)) ⌝ }
-    ensures { λ b. ⌜ b ≡ inNorth sx sy f x r d e ⌝ }
-{
-    if x != f.xd {
-        return false;
-    }
-    if r < 1 {
-        return false;
-    }
-    if f.offset_y(sy) < r {
-        return false;
-    }
-    if r - 1 < d {
-        return false;
-    }
-    e == f.offset_x(sx) + r + d * sx
-}
-
-// In W of column x, in the source's row.
-fn in_first_row(sx: u32, sy: u32, f: Flow, x: u32, d: u32, e: u32) -> bool
-    requires { ⌜ (FlowOk sx sy f) × (x < sx) ⌝ }
-    ensures { λ b. ⌜ b ≡ inFirstRow sx f x d e ⌝ }
-{
-    let j = torus::offset(sx, f.xs, x);
-    if j < 1 {
-        return false;
-    }
-    if f.offset_x(sx) < j {
-        return false;
-    }
-    if d != 0 {
-        return false;
-    }
-    e == j
-}
-
-// In W of column x, r rows south of the source's row.
-fn in_later_row(sx: u32, sy: u32, f: Flow, x: u32, r: u32, d: u32, e: u32) -> bool
-    requires { ⌜ (FlowOk sx sy f) × ((x < sx) × ((sx ≤ mostSize) × (r ≤ mostSize))) ⌝ }
-    ensures { λ b. ⌜ b ≡ inLaterRow sx sy f x r d e ⌝ }
-{
-    if f.offset_y(sy) < r {
-        return false;
-    }
-    if d < 1 {
-        return false;
-    }
-    if r < d {
-        return false;
-    }
-    e == f.offset_x(sx) + r + (d - 1) * sx + torus::lap(sx, f.xd, x)
-}
-
-// A packet of flow f may be at this input of the router, e cycles after its entry and with d deflections.
-fn in_place(sx: u32, sy: u32, f: Flow, input: Input, x: u32, y: u32, d: u32, e: u32) -> bool
-    requires { ⌜ (FlowOk sx sy f) × ((x < sx) × (y < sy)) ⌝ }
-    requires { ⌜ (sx ≤ mostSize) × (sy ≤ mostSize) ⌝ }
-    ensures { λ b. ⌜ b ≡ inPlace sx sy f (placeOf input x y) d e ⌝ }
-{
-    if e < 1 {
-        return false;
-    }
-    let r = torus::offset(sy, f.ys, y);
-    match input {
-        Input::North => in_north(sx, sy, f, x, r, d, e),
-        Input::West => {
-            if r == 0 {
-                return in_first_row(sx, sy, f, x, d, e);
-            }
-            in_later_row(sx, sy, f, x, r, d, e)
-        }
-    }
-}
-
 // The packet of a register is that of a state.
 fn packet_fits(
     w: &[u32],
@@ -213,7 +136,7 @@ fn packet_fits(
     if clock <= entry {
         return false;
     }
-    in_place(
+    place::in_place(
         w[0],
         w[1],
         state::flow_in(w, at),

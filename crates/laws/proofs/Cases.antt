@@ -1,7 +1,9 @@
 -- What a branch of the code tells of a test: the sets that `search` is handed where a definition goes by tests.
 use mathlib.Core.Bool.{Bool, true, false, cond, not, _&&_, _||_}
 use Prim.Native.Nat.{ℕ, suc}
+use native.Mathlib.Decide.{ℕ-discrete}
 use native.Mathlib.Omega.{arith}
+use lib.Dec.{eqb}
 use mathlib.Core.Path.{_≡_, refl, sym, _∙_}
 use mathlib.Core.Logic.{_⊎_, inl, inr}
 use borrow.Author.Needs.{needs}
@@ -38,3 +40,6 @@ or-false true b e =
 pub passed : (b : Bool) (n rest : ℕ) → cond b (suc n) rest ≡ 0 → (b ≡ false) × (rest ≡ 0)
 passed true n rest e = absurd (omega arith)
 passed false n rest e = (refl, e)
+
+pub eqb-swap : (m n : ℕ) → eqb m n ≡ eqb n m
+eqb-swap m n = elim (ℕ-discrete m n) [ yes e ↦ rw (eq-eqb m n e, eq-eqb n m (sym e)) | no e ↦ rw (ne-eqb m n e, ne-eqb n m (λ h. e (sym h))) ]

@@ -1,8 +1,8 @@
 -- Laws of tests over the members of a list. Rests on specs/Count.
-use mathlib.Core.Bool.{Bool, true, false, cond, not, _&&_, _||_, false≢true}
+use mathlib.Core.Bool.{Bool, true, false, not, _&&_, _||_, false≢true}
 use mathlib.Core.List.{List, [], _∷_, _++_, map, List·Memᴰ as Mem, List·Memᴰ·head as here, List·Memᴰ·tail as there}
 use mathlib.Core.Logic.{_⊎_, inl, inr}
-use mathlib.Core.Path.{_≡_, refl, sym, ap, _∙_}
+use mathlib.Core.Path.{_≡_, refl, sym, _∙_}
 use Prim.Native.Nat.{ℕ, zero, suc, _+_, _≤_, _<_}
 use native.Mathlib.Omega.{arith}
 use native.Mathlib.Decide.{ℕ-discrete}
@@ -12,6 +12,10 @@ use Rattle.laws.specs.Bounded.{sumBelow}
 use Rattle.laws.specs.Count.{one, count, any, keep, joinBelow}
 use Rattle.laws.proofs.Cases.{test}
 use Rattle.laws.proofs.Sum.{sum-same}
+
+pub one-most : (t : Bool) → one t ≤ 1
+one-most true = omega arith
+one-most false = omega arith
 
 module _ {A : Type 0} where
   -- a member of a list with x at its end
@@ -32,8 +36,8 @@ module _ {A : Type 0} where
   any-true t (z ∷ l) e = pick (λ d. any-true t l d) (test (t z))
     where
       pick : (any t l ≡ true → (x : A) × Mem x l × (t x ≡ true)) → (t z ≡ true) ⊎ (t z ≡ false) → (x : A) × Mem x (z ∷ l) × (t x ≡ true)
-      pick later (inl yes′) = (z, here refl, yes′)
-      pick later (inr no′) = let n = later (rw no′ at e) in (n .0, there (n .1), n .2)
+      pick later (inl hit) = (z, here refl, hit)
+      pick later (inr miss) = let n = later (rw miss at e) in (n .0, there (n .1), n .2)
 
   pub any-mem : (t : A → Bool) {x : A} (l : List A) → Mem x l → t x ≡ true → any t l ≡ true
   any-mem t (z ∷ l) (here e) h = rw (← e, h)
@@ -47,12 +51,19 @@ module _ {A : Type 0} where
   any-count t [] e = absurd (false≢true e)
   any-count t (z ∷ l) e = elim (test (t z)) [ inl h ↦ rw h (omega arith) | inr h ↦ rw h (omega (arith, any-count t l (rw h at e))) ]
 
+  pub mem-count : (t : A → Bool) {x : A} (l : List A) → Mem x l → t x ≡ true → 1 ≤ count t l
+  mem-count t l m e = any-count t l (any-mem t l m e)
+
   pub none-count : (t : A → Bool) (l : List A) → any t l ≡ false → count t l ≡ 0
   none-count t [] e = refl
   none-count t (z ∷ l) e = elim (test (t z)) [ inl h ↦ absurd (false≢true (sym e ∙ rw h)) | inr h ↦ rw (h, none-count t l (rw h at e)) ]
 
   pub count-any : (t : A → Bool) (l : List A) → 1 ≤ count t l → any t l ≡ true
   count-any t l h = elim (test (any t l)) [ inl e ↦ e | inr e ↦ absurd (omega (arith, none-count t l e)) ]
+
+  -- a member that passes, where some are counted
+  pub count-find : (t : A → Bool) (l : List A) → 1 ≤ count t l → (x : A) × Mem x l × (t x ≡ true)
+  count-find t l h = any-true t l (count-any t l h)
 
   pub count-append : (t : A → Bool) (l m : List A) → count t (l ++ m) ≡ count t l + count t m
   count-append t [] m = omega arith

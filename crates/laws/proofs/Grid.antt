@@ -1,6 +1,6 @@
 -- Laws of tables by row, then column, and of equal parts joined in that order. Rests on Stands and specs/Grid.
-use mathlib.Core.List.{List, [], _∷_, _++_, append-nil}
-use mathlib.Core.Path.{_≡_, refl, sym, ap, _∙_}
+use mathlib.Core.List.{List, [], _∷_, append-nil}
+use mathlib.Core.Path.{_≡_, refl, ap, _∙_}
 use Prim.Native.Nat.{ℕ, zero, suc, _+_, _*_, _≤_, _<_}
 use native.Mathlib.Nat.{add-zero, zero-add, one-mul, add-assoc, mul-add, mul-assoc, mul-comm, mul-le-mul-left, mul-le-mul-right, mul-suc, mul-zero}
 use native.Mathlib.Decide.{decLt, ℕ-discrete}
@@ -64,6 +64,16 @@ module _ {A : Type 0} (d : A) (c sx sy : ℕ) (g : ℕ → ℕ → List A) (long
       (λ x h. rw (add-assoc, place c sx x y) (s x y h k)))
 
 module _ {A : Type 0} where
+  -- equal entries, equal tables
+  pub tabulate-same : (n : ℕ) (f g : ℕ → A) → ((i : ℕ) → i < n → f i ≡ g i) → tabulate n f ≡ tabulate n g
+  unfolding tabulate
+  tabulate-same zero f g h = refl
+  tabulate-same (suc n) f g h = rw (tabulate-same n f g (λ i l. h i (omega arith)), h n (omega arith))
+
+  pub grid-same : (sx sy : ℕ) (f g : ℕ → ℕ → A) → ((x y : ℕ) → x < sx → y < sy → f x y ≡ g x y) → grid sx sy f ≡ grid sx sy g
+  unfolding grid
+  grid-same sx sy f g h = join-same sy _ _ (λ y l. tabulate-same sx _ _ (λ x k. h x y k l))
+
   tabulate-join : (n : ℕ) (f : ℕ → A) → tabulate n f ≡ joinBelow n (λ i. f i ∷ [])
   unfolding tabulate
   tabulate-join zero f = refl

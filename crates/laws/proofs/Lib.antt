@@ -3,8 +3,10 @@ pub mod Cases
 pub mod Bounded
 pub mod Sum
 pub mod Count
+pub mod Keep
 pub mod Parts
 pub mod Stands
 pub mod Grid
 pub mod Stores
 pub mod Turns
+pub mod Written

@@ -5,8 +5,9 @@ use mathlib.Core.Path.{_≡_, refl, sym, ap, _∙_}
 use Prim.Native.Nat.{ℕ, zero, suc, _+_, _-_, _*_, _≤_, _<_}
 use native.Mathlib.Nat.{add-zero, zero-add, add-suc, add-assoc, eq-or-lt-of-le, le-of-suc-le-suc}
 use native.Mathlib.Decide.{decLt}
+use native.Mathlib.Numerals.{add-one}
 use native.Mathlib.Omega.{arith}
-use lib.ListN.{length, getD, take, drop, set, length-append, length-set, length-take, take-append-drop, List·getD-append}
+use lib.ListN.{length, getD, take, drop, set, length-append, length-set, take-append-drop, List·getD-append}
 use lib.Seq.{sets, length-sets, ext-getD, getD-take, getD-append-add, getD-set-same, getD-set-other, length-take-le}
 use Rattle.laws.specs.Bounded.{tabulate}
 use Rattle.laws.specs.Count.{joinBelow}
@@ -39,6 +40,12 @@ module _ {A : Type 0} where
   sets-append l i (x ∷ a) b =
       let e : i + suc (length a) ≡ suc i + length a = omega arith in
       rw e (sets-append (set l i x) (suc i) a b)
+
+  -- a loop that writes parts of one length, one behind the other: one turn more
+  pub sets-more : (c n : ℕ) (f : ℕ → List A) (long : (i : ℕ) → length (f i) ≡ c) (l m : List A) (base : ℕ)
+      → m ≡ sets l base (joinBelow n f) → sets m (base + c * n) (f n) ≡ sets l base (joinBelow (n + 1) f)
+  sets-more c n f long l m base e =
+      rw (e, add-one, ← (length-join c n f (λ i h. long i))) (sets-append l base (joinBelow n f) (f n))
 
   -- four stores
   pub sets-four : (l : List A) (at : ℕ) (a b c d : A)

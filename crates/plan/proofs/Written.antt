@@ -40,7 +40,7 @@ four-back a b c d ha hb hc hd =
     let high : (a + 256 * b + 65536 * (c + 256 * d)) / 65536 ≡ c + 256 * d = omega arith in
     rw (low, high, two-back a b ha hb, two-back c d hc hd)
 
-records-append : (l : List Flow) (f : Flow) → recordsBytes (l ++ (f ∷ [])) ≡ recordsBytes l ++ recordBytes f
+pub records-append : (l : List Flow) (f : Flow) → recordsBytes (l ++ (f ∷ [])) ≡ recordsBytes l ++ recordBytes f
 unfolding recordsBytes
 records-append [] f = append-nil (recordBytes f)
 records-append (g ∷ l) f = rw (records-append l f, append-assoc)

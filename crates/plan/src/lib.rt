@@ -4,10 +4,22 @@ ghost use mathlib.Core.Path.{_≡_};
 ghost use mathlib.Core.Bool.{Bool};
 ghost use Prim.Native.Nat.{_+_, _*_, _<_, _≤_};
 ghost use lib.ListN.{length};
+ghost use Rattle.flow.specs.Plan.{mostFlows};
 ghost use Rattle.plan.specs.Bytes.{littleEndian2};
 ghost use Rattle.plan.specs.Layout.{trailerOf, flowFrom, lastAt, tagged, trailerSize, recordSize};
 ghost use Rattle.plan.specs.Refusals.{trailerNumber, headerNumber, sizeOk, recordNumber, recordsAnswer, planAnswer};
 ghost use Rattle.plan.specs.Notes.{notesOf};
+
+// A plan file has at most this many bytes.
+pub const MOST_FILE: usize = 65536;
+// The bytes of a flow's record.
+pub const RECORD_SIZE: usize = 8;
+// The bytes of the trailer.
+pub const TRAILER_SIZE: usize = 12;
+// A plan has at most this many flows.
+pub const MOST_FLOWS: u32 = 256;
+// A size of the torus is at most this.
+pub const MOST_SIZE: u32 = 16;
 
 // What a call answers: a value, or the number of its refusal with the place.
 pub enum Answer {
@@ -41,7 +53,7 @@ pub fn read_trailer(file: &[u8]) -> Trailer
     requires { ⌜ trailerSize ≤ length (now file) ⌝ }
     ensures { λ r. ⌜ r ≡ trailerOf (now (file .entry)) ⌝ }
 {
-    let at = file.len() - 12;
+    let at = file.len() - TRAILER_SIZE;
     let low = two_bytes(file, at);
     let high = two_bytes(file, at + 2);
     Trailer {
@@ -89,7 +101,7 @@ pub fn size_ok(s: u32) -> bool
     if s < 1 {
         return false;
     }
-    s <= 16
+    s <= MOST_SIZE
 }
 
 // The refusal of sizes, count and start, or 0.
@@ -106,10 +118,10 @@ fn header_number(t: Trailer, length: usize) -> u32
     if t.count == 0 {
         return 4;
     }
-    if 256 < t.count {
+    if MOST_FLOWS < t.count {
         return 4;
     }
-    if (t.start as usize) + 8 * (t.count as usize) != length - 12 {
+    if (t.start as usize) + RECORD_SIZE * (t.count as usize) != length - TRAILER_SIZE {
         return 5;
     }
     0
@@ -120,10 +132,10 @@ fn trailer_number(file: &[u8]) -> u32
     ensures { λ r. ⌜ r ≡ trailerNumber (now (file .entry)) ⌝ }
 {
     let length = file.len();
-    if length < 12 {
+    if length < TRAILER_SIZE {
         return 1;
     }
-    if 65536 < length {
+    if MOST_FILE < length {
         return 1;
     }
     if !is_tagged(file) {
@@ -162,13 +174,13 @@ fn record_number(sx: u32, sy: u32, f: Flow, last: u32) -> u32
 // The first refused record, if there is one.
 fn records_answer(file: &[u8], t: Trailer) -> Answer
     requires { ⌜ t .start + recordSize * t .count ≤ length (now file) ⌝ }
-    requires { ⌜ t .count ≤ 256 ⌝ }
+    requires { ⌜ t .count ≤ mostFlows ⌝ }
     ensures { λ r. ⌜ r ≡ recordsAnswer (now (file .entry)) t ⌝ }
 {
     let start = t.start as usize;
     let count = t.count;
     for f in 0..count {
-        let at = start + 8 * (f as usize);
+        let at = start + RECORD_SIZE * (f as usize);
         let number = record_number(t.sx, t.sy, flow_at(file, at), last_at(file, at));
         if number != 0 {
             return Answer::Refused { number, place: f };

@@ -1,26 +1,23 @@
 -- Words that form a state are the words of the state that they have. Rests on Words, View and Forms.
 use mathlib.Core.List.{List, _++_}
-use mathlib.Core.Logic.{inl, inr}
-use mathlib.Core.Path.{_≡_, refl, sym, ap, _∙_}
-use Prim.Native.Nat.{ℕ, _+_, _-_, _*_, _≤_, _<_}
-use native.Mathlib.Nat.{add-zero, zero-add}
+use mathlib.Core.Path.{_≡_, _∙_}
+use Prim.Native.Nat.{ℕ, _+_, _-_, _≤_, _<_}
+use native.Mathlib.Nat.{add-zero}
 use native.Mathlib.Decide.{ℕ-discrete}
 use native.Mathlib.Omega.{arith}
 use borrow.Author.Tests.{eq-eqb, ne-eqb}
-use lib.ListN.{length, getD, take, drop}
-use lib.Seq.{take-append-seam}
+use lib.ListN.{length, getD, drop}
 use Rattle.laws.specs.Bounded.{tabulate}
 use Rattle.laws.proofs.Stands.{Stands, stands-entries, stands-append, stands-start}
 use Rattle.flow.specs.Plan.{flowAt}
-use Rattle.book.specs.Line.{Place, W, N}
-use Rattle.state.specs.declared.Register.the-variants.{Empty, Packet}
-use Rattle.state.specs.Layout.{headerSize, flowSize, registerSize, routerSize, flowPlace, routerPlace, stateSize}
+use Rattle.book.specs.Line.{W, N}
+use Rattle.state.specs.declared.Register.the-variants.{Empty}
+use Rattle.state.specs.Layout.{headerSize, flowSize, registerSize, flowPlace, routerPlace}
 use Rattle.state.specs.State.{tallyAt, cellAt}
 use Rattle.state.specs.Words.{headerWords, flowWords, registerWords, cellWords, stateWords}
 use Rattle.state.specs.Read.{sxIn, syIn, countIn, clockIn, flowIn, tallyIn, registerIn, cellIn, routerIn, planIn, stateOf}
-use Rattle.state.specs.Forms.{registerFits, sizeIn, stateNumber}
-use Rattle.state.specs.Calls.{planSize}
-use Rattle.state.proofs.Words.{length-register, length-words, words-stand, flow-below, router-below}
+use Rattle.state.specs.Forms.{sizeIn, stateNumber}
+use Rattle.state.proofs.Words.{length-register, length-words, words-stand, router-below}
 use Rattle.state.proofs.View.{view-plan, view-count, view-size, view-flow, view-tally, view-cell}
 use Rattle.state.proofs.Forms.{HeaderFacts, StateFacts, empty-facts, state-facts}
 

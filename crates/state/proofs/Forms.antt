@@ -1,7 +1,7 @@
 -- What words that form a state have: every fact of 01's list, in the form in which it is used. Rests on specs/Forms.
-use mathlib.Core.Bool.{Bool, true, false, cond, not, _&&_}
+use mathlib.Core.Bool.{true, cond, not, _&&_}
 use mathlib.Core.List.{List}
-use mathlib.Core.Path.{_≡_, refl, sym, ap, _∙_}
+use mathlib.Core.Path.{_≡_, sym, ap, _∙_}
 use Prim.Native.Nat.{ℕ, _+_, _-_, _*_, _≤_, _<_}
 use native.Mathlib.Nat.{mul-le-mul}
 use native.Mathlib.Omega.{arith}
@@ -15,14 +15,12 @@ use Rattle.laws.proofs.Bounded.{all-at}
 use Rattle.laws.proofs.Grid.{cell-below}
 use Rattle.flow.specs.declared.Flow.{Flow}
 use Rattle.flow.specs.Plan.{FlowOk, onTorus, mostSize, mostFlows, mostPeriod, mostBurst}
-use Rattle.bucket.specs.declared.Bucket.{Bucket}
 use Rattle.bucket.specs.Regulator.{bucketFits}
 use Rattle.plan.specs.Refusals.{sizeOk}
 use Rattle.plan.proofs.Accepted.{SizeOk, size-ok}
 use Rattle.book.specs.Line.{Place, W, N}
 use Rattle.book.specs.Calls.{mostWaiting}
 use Rattle.book.specs.InPlace.{inPlace}
-use Rattle.state.specs.declared.Register.{Register}
 use Rattle.state.specs.declared.Register.the-variants.{Empty, Packet}
 use Rattle.state.specs.declared.Tally.{Tally}
 use Rattle.state.specs.Layout.{headerSize, registerSize, flowPlace}

@@ -5,3 +5,4 @@ pub mod View
 pub mod Forms
 pub mod Again
 pub mod Over
+pub mod Formed

@@ -1,15 +1,13 @@
 -- Laws of memory whose leading part is written anew, part by part, and of refusals. Rests on specs/Outcome.
-use mathlib.Core.List.{List, _++_}
-use mathlib.Core.Path.{_≡_, refl, sym, ap, _∙_}
-use Prim.Native.Nat.{ℕ, zero, suc, _+_, _≤_, _<_}
+use mathlib.Core.List.{List}
+use mathlib.Core.Path.{_≡_, refl, _∙_}
+use Prim.Native.Nat.{ℕ, zero, suc, _≤_}
 use native.Mathlib.Nat.{zero-add}
 use native.Mathlib.Omega.{arith}
 use lib.ListN.{length, drop, length-append, length-drop}
 use lib.Seq.{sets, sets-eq}
 use Rattle.laws.proofs.Stands.{Stands, stands-start}
-use Rattle.plan.specs.declared.Answer.{Answer}
-use Rattle.plan.specs.declared.Answer.the-variants.{Done, Refused}
-use Rattle.state.specs.Outcome.{Outcome, outcome, refused, unless, unlessRefused, over}
+use Rattle.state.specs.Outcome.{Outcome, refused, unless, over}
 
 pub over-length : (part memory : List ℕ) → length part ≤ length memory → length (over part memory) ≡ length memory
 over-length part memory h = omega (arith, length-append part (drop (length part) memory), length-drop (length part) memory)

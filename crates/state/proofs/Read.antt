@@ -1,7 +1,7 @@
 -- What was written is read back: the state that words have, by the parts that stand in them. Rests on Words and specs/Read.
 use mathlib.Core.List.{List, _++_}
 use mathlib.Core.Path.{_≡_, refl, sym, ap, _∙_}
-use Prim.Native.Nat.{ℕ, _+_, _-_, _*_, _≤_, _<_}
+use Prim.Native.Nat.{ℕ, _+_, _-_, _*_, _<_}
 use native.Mathlib.Nat.{add-zero, zero-add}
 use native.Mathlib.Omega.{arith}
 use borrow.Author.Tests.{ne-eqb}
@@ -12,12 +12,12 @@ use Rattle.laws.proofs.Bounded.{is-tabulate}
 use Rattle.laws.proofs.Stands.{Stands, stands-in, stands-first, stands-after}
 use Rattle.laws.proofs.Grid.{is-grid}
 use Rattle.flow.specs.declared.Flow.{Flow}
-use Rattle.flow.specs.Plan.{Plan, flowAt, noFlow}
+use Rattle.flow.specs.Plan.{flowAt, noFlow}
 use Rattle.state.specs.declared.Register.{Register}
 use Rattle.state.specs.declared.Register.the-variants.{Empty, Packet}
 use Rattle.state.specs.declared.Tally.{Tally}
 use Rattle.state.specs.declared.Cell.{Cell}
-use Rattle.state.specs.Layout.{registerSize, flowPlace, routerPlace}
+use Rattle.state.specs.Layout.{registerSize, flowPlace}
 use Rattle.state.specs.State.{State, tallyAt, cellAt, freshTally, emptyCell}
 use Rattle.state.specs.Words.{headerWords, flowWords, registerWords, cellWords, stateWords}
 use Rattle.state.specs.Read.{sxIn, syIn, countIn, clockIn, flowIn, tallyIn, registerIn, cellIn, routerIn, planIn, stateOf}
@@ -48,16 +48,18 @@ module _ (w : List ℕ) (at : ℕ) where
       let less : flow + 1 - 1 ≡ flow = omega arith in
       rw (first, s .same 1 (omega arith), s .same 2 (omega arith), s .same 3 (omega arith), ne-eqb (flow + 1) 0 (λ e. omega arith), less)
 
-pub cell-read : (w : List ℕ) (at : ℕ) (c : Cell) → Stands 0 w at (cellWords c) → cellIn w at ≡ c
-cell-read w at c s = λ j. record { west = register-read w at (c .west) west j; north = register-read w (at + registerSize) (c .north) north j }
-  where
-    west : Stands 0 w at (registerWords (c .west))
-    west = rw add-zero at (stands-in 0 w (cellWords c) (registerWords (c .west)) at 0 s (stands-first 0 (registerWords (c .west)) (registerWords (c .north))))
+-- W and N of a cell
+module _ (w : List ℕ) (at : ℕ) (c : Cell) (s : Stands 0 w at (cellWords c)) where
+  pub west-part : Stands 0 w at (registerWords (c .west))
+  west-part = rw add-zero at (stands-in 0 w (cellWords c) (registerWords (c .west)) at 0 s (stands-first 0 (registerWords (c .west)) (registerWords (c .north))))
 
-    north : Stands 0 w (at + registerSize) (registerWords (c .north))
-    north =
-        stands-in 0 w (cellWords c) (registerWords (c .north)) at registerSize s
-        (rw (length-register (c .west)) at (stands-after 0 (registerWords (c .west)) (registerWords (c .north))))
+  pub north-part : Stands 0 w (at + registerSize) (registerWords (c .north))
+  north-part =
+      stands-in 0 w (cellWords c) (registerWords (c .north)) at registerSize s
+      (rw (length-register (c .west)) at (stands-after 0 (registerWords (c .west)) (registerWords (c .north))))
+
+  pub cell-read : cellIn w at ≡ c
+  cell-read = λ j. record { west = register-read w at (c .west) west-part j; north = register-read w (at + registerSize) (c .north) north-part j }
 
 -- a tally for each flow, a cell for each router
 pub record Sized (s : State) : Type 0 where
@@ -66,10 +68,10 @@ pub record Sized (s : State) : Type 0 where
 
 module _ (s : State) (w : List ℕ) (h : Stands 0 w 0 (stateWords s)) where
   -- part of the state's words, so of the memory
-  part : (at : ℕ) (b : List ℕ) → Stands 0 (stateWords s) at b → Stands 0 w at b
+  pub part : (at : ℕ) (b : List ℕ) → Stands 0 (stateWords s) at b → Stands 0 w at b
   part at b p = rw zero-add at (stands-in 0 w (stateWords s) b 0 at h p)
 
-  head : Stands 0 w 0 (headerWords (s .plan) (s .clock))
+  pub head : Stands 0 w 0 (headerWords (s .plan) (s .clock))
   head = part 0 _ (header-stands s)
 
   pub sx-read : sxIn w ≡ s .plan .sx

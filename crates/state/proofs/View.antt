@@ -1,13 +1,13 @@
 -- The state that words have, entry by entry. Rests on specs/Read.
 use mathlib.Core.List.{List}
-use mathlib.Core.Path.{_≡_, refl, sym, ap, _∙_}
-use Prim.Native.Nat.{ℕ, _+_, _*_, _<_}
-use lib.ListN.{length, getD}
+use mathlib.Core.Path.{_≡_, refl, sym, _∙_}
+use Prim.Native.Nat.{ℕ, _<_}
+use lib.ListN.{length}
 use Rattle.laws.proofs.Bounded.{length-tabulate, getD-tabulate}
 use Rattle.laws.proofs.Grid.{length-grid, getD-grid}
 use Rattle.flow.specs.Plan.{flowAt, noFlow}
 use Rattle.state.specs.Layout.{flowPlace}
-use Rattle.state.specs.State.{State, tallyAt, cellAt, freshTally, emptyCell}
+use Rattle.state.specs.State.{tallyAt, cellAt, freshTally, emptyCell}
 use Rattle.state.specs.Read.{sxIn, syIn, countIn, flowIn, tallyIn, cellIn, routerIn, planIn, stateOf}
 use Rattle.state.specs.Calls.{planSize}
 use Rattle.state.specs.Forms.{sizeIn}

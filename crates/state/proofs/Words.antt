@@ -1,13 +1,13 @@
 -- Where the words of a state stand: header, flows and registers, for every size. Rests on specs/Words and the laws of parts.
-use mathlib.Core.List.{List, [], _∷_, _++_}
-use mathlib.Core.Path.{_≡_, refl, sym, ap, _∙_}
-use Prim.Native.Nat.{ℕ, zero, suc, _+_, _*_, _≤_, _<_}
-use native.Mathlib.Nat.{zero-add, add-assoc}
+use mathlib.Core.List.{List, _++_}
+use mathlib.Core.Path.{_≡_, refl}
+use Prim.Native.Nat.{ℕ, _+_, _*_, _≤_, _<_}
+use native.Mathlib.Nat.{zero-add}
 use native.Mathlib.Omega.{arith}
-use lib.ListN.{length, getD, drop, length-append}
+use lib.ListN.{length, length-append}
 use Rattle.laws.specs.Count.{joinBelow}
 use Rattle.laws.specs.Grid.{cellIndex}
-use Rattle.laws.proofs.Stands.{Stands, stands-left, stands-in, stands-first, stands-after, stands-append, stands-start, length-join, join-stands, stands-join}
+use Rattle.laws.proofs.Stands.{Stands, stands-left, stands-in, stands-first, stands-after, stands-append, length-join, join-stands, stands-join}
 use Rattle.laws.proofs.Grid.{cell-below, rows, length-rows, rows-stand, stands-rows}
 use Rattle.flow.specs.Plan.{flowAt}
 use Rattle.state.specs.declared.Register.{Register}

@@ -15,8 +15,6 @@ use Rattle.book.specs.Calls.{mostWaiting}
 use Rattle.book.specs.InPlace.{inPlace}
 use Rattle.state.specs.declared.Register.{Register}
 use Rattle.state.specs.declared.Register.the-variants.{Empty, Packet}
-use Rattle.state.specs.declared.Input.{Input}
-use Rattle.state.specs.declared.Input.the-variants.{West, North}
 use Rattle.state.specs.Layout.{headerSize, registerSize, flowPlace, stateSize}
 use Rattle.state.specs.declared.Tally.{Tally}
 use Rattle.state.specs.Read.{sxIn, syIn, countIn, clockIn, flowIn, tallyIn, registerIn, routerIn}
@@ -45,11 +43,6 @@ unfoldable pub flowFits : List ℕ → ℕ → Bool
 flowFits w f =
     let at = flowPlace f in
     numbersFit (sxIn w) (syIn w) (flowIn w at) && tallyFits (clockIn w) (flowIn w at) (tallyIn w at)
-
--- the link register that feeds an input of the router in column x and row y
-abbrev pub placeOf : Input → (x y : ℕ) → Place
-placeOf West x y = W x y
-placeOf North x y = N x y
 
 -- an empty register is four zeros; a packet is of a flow below F, its serial is 1..entered, its entry is before the clock,
 -- and it is in place

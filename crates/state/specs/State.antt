@@ -5,7 +5,6 @@ use lib.ListN.{length, getD}
 use Rattle.laws.specs.Bounded.{tabulate}
 use Rattle.laws.specs.Grid.{grid, cellIndex}
 use Rattle.flow.specs.Plan.{Plan, flowAt}
-use Rattle.bucket.specs.declared.Bucket.{Bucket}
 use Rattle.bucket.specs.Regulator.{fullBucket}
 use Rattle.state.specs.declared.Register.the-variants.{Empty}
 use Rattle.state.specs.declared.Tally.{Tally}

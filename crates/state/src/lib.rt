@@ -21,12 +21,6 @@ pub enum Register {
     },
 }
 
-// The input of a router that a link register feeds.
-pub enum Input {
-    West,
-    North,
-}
-
 // The link registers of a router.
 pub struct Cell {
     pub west: Register,

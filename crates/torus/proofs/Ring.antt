@@ -1,8 +1,8 @@
 -- Laws of offsets and neighbours for every size and all places below it. Rests on specs/Ring; nothing above opens that.
-use mathlib.Core.Path.{_≡_, refl, sym, ap, _∙_}
+use mathlib.Core.Path.{_≡_, sym}
 use mathlib.Core.Logic.{_⊎_, inl, inr, _≢_}
-use Prim.Native.Nat.{ℕ, zero, suc, _+_, _-_, _*_, _%_, _≤_, _<_}
-use native.Mathlib.Nat.{mod-eq-of-lt, mod-lt, mod-self, add-mod-right}
+use Prim.Native.Nat.{ℕ, _+_, _-_, _≤_, _<_}
+use native.Mathlib.Nat.{mod-eq-of-lt, mod-lt, add-mod-right}
 use native.Mathlib.Decide.{decLe, ℕ-discrete}
 use native.Mathlib.Omega.{arith}
 use borrow.Author.Tests.{eq-eqb, ne-eqb}
@@ -51,6 +51,14 @@ offset-same size at l = sym (offset-is size at at l l 0 (inl (omega arith)))
 pub offset-zero : (size from to : ℕ) → from < size → to < size → offset size from to ≡ 0 → from ≡ to
 offset-zero size from to f t e = elim (offset-cases size from to f t) [ inl h ↦ omega arith | inr h ↦ absurd (omega arith) ]
 
+-- no two places have the same offset
+pub offset-one : (size from a b : ℕ) → from < size → a < size → b < size → offset size from a ≡ offset size from b → a ≡ b
+offset-one size from a b f l m e =
+    elim (offset-cases size from a f l) [
+      | inl h ↦ elim (offset-cases size from b f m) [ inl k ↦ omega arith | inr k ↦ absurd (omega arith) ]
+      | inr h ↦ elim (offset-cases size from b f m) [ inl k ↦ absurd (omega arith) | inr k ↦ omega arith ]
+    ]
+
 pub next-below : (size at : ℕ) → at < size → next size at < size
 next-below size at l = elim (next-cases size at l) [ inl h ↦ omega arith | inr h ↦ omega arith ]
 
@@ -86,15 +94,7 @@ previous-next size at l =
 
 -- each place is next to one
 pub next-of : (size to : ℕ) → to < size → (at : ℕ) × (at < size) × (next size at ≡ to)
-next-of size to l =
-    elim (ℕ-discrete to 0) [
-      | yes e ↦
-          let m : size - 1 < size = omega arith in
-          (size - 1, m, elim (next-cases size (size - 1) m) [ inl h ↦ omega arith | inr h ↦ absurd (omega arith) ])
-      | no e ↦
-          let m : to - 1 < size = omega arith in
-          (to - 1, m, elim (next-cases size (to - 1) m) [ inl h ↦ absurd (omega arith) | inr h ↦ omega arith ])
-    ]
+next-of size to l = (previous size to, previous-below size to l, next-previous size to l)
 
 -- one place on, the offset is one more, or the ring is round
 pub offset-next : (size from at : ℕ) → from < size → at < size
@@ -113,6 +113,17 @@ offset-next size from at f l =
       ]
     ]
 
+-- short of a place, the next one is one nearer
+pub offset-on : (size from at to : ℕ) → from < size → at < size → to < size → offset size from at < offset size from to
+    → offset size from (next size at) ≡ offset size from at + 1
+offset-on size from at to f l m short =
+    elim (offset-next size from at f l) [ inl h ↦ h .1 | inr h ↦ absurd (omega (arith, offset-below size from to f m)) ]
+
+pub offset-short : (size from at to : ℕ) → from < size → at < size → to < size → offset size from at ≤ offset size from to → at ≢ to
+    → offset size from at < offset size from to
+offset-short size from at to f l m short other =
+    let apart : offset size from at ≢ offset size from to = λ e. other (offset-one size from at to f l m e) in omega arith
+
 -- the lap is the offset, but the size where that is 0
 pub lap-cases : (size from to : ℕ) → ((offset size from to ≡ 0) × (lap size from to ≡ size)) ⊎ ((1 ≤ offset size from to) × (lap size from to ≡ offset size from to))
 unfolding lap
@@ -121,6 +132,10 @@ lap-cases size from to =
       | yes e ↦ inl (e, rw (eq-eqb (offset size from to) 0 e))
       | no e ↦ inr (omega arith, rw (ne-eqb (offset size from to) 0 e))
     ]
+
+pub lap-most : (size from to : ℕ) → from < size → to < size → lap size from to ≤ size
+lap-most size from to f t =
+    elim (lap-cases size from to) [ inl h ↦ omega arith | inr h ↦ omega (arith, offset-below size from to f t) ]
 
 -- a lap is 1 after the start, and one more with each place until the start is met again
 pub lap-first : (size from : ℕ) → from < size → lap size from (next size from) ≡ 1

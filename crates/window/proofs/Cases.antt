@@ -1,6 +1,6 @@
 -- The starred cases of 01 about flights and windows hold of the definitions.
 use mathlib.Core.Path.{_≡_, refl}
-use Prim.Native.Nat.{ℕ, _+_, _-_}
+use Prim.Native.Nat.{_+_, _-_}
 use native.Mathlib.Nat.{div-one}
 use native.Mathlib.Omega.{arith}
 use Rattle.laws.specs.Bounded as Bounded

@@ -1,14 +1,13 @@
 -- Laws of the interference I(t): it never falls with t, and no flow's longer period raises it. Rests on the curve's laws.
 use mathlib.Core.Bool.{Bool, true, false, cond}
-use mathlib.Core.Path.{_≡_, refl, sym, ap, _∙_}
+use mathlib.Core.Path.{_≡_}
 use mathlib.Core.Logic.{_⊎_, inl, inr}
-use Prim.Native.Nat.{ℕ, _+_, _-_, _≤_, _<_}
+use Prim.Native.Nat.{ℕ, _-_, _≤_, _<_}
 use native.Mathlib.Decide.{ℕ-discrete}
 use native.Mathlib.Omega.{arith}
 use lib.Dec.{ltb, eqb}
 use lib.ListN.{length, length-set}
 use lib.Seq.{getD-set-same, getD-set-other}
-use Rattle.laws.specs.Bounded.{sumBelow}
 use Rattle.laws.proofs.Cases.{test}
 use Rattle.laws.proofs.Sum.{sum-mono}
 use Rattle.flow.specs.declared.Flow.{Flow}

@@ -1,5 +1,5 @@
 -- The least t with I t < t: what the search's answer says of I, how it is told, and the leap. Rests on specs/Window's leastFrom.
-use mathlib.Core.Path.{_≡_, refl, sym, _∙_}
+use mathlib.Core.Path.{_≡_, refl}
 use mathlib.Core.Logic.{inl, inr}
 use Prim.Native.Nat.{ℕ, zero, suc, _+_, _≤_, _<_}
 use native.Mathlib.Nat.{eq-or-lt-of-le}

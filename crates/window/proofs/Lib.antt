@@ -4,4 +4,7 @@ pub mod Least
 pub mod Interference
 pub mod Window
 pub mod Rivals
+pub mod Rates
+pub mod Gathered
+pub mod Flight
 pub mod Cases

@@ -1,9 +1,50 @@
--- Laws of conflicts: a spread is small. Rests on specs/Conflict and the ring's laws.
-use mathlib.Core.Bool.{Bool, true, false, cond}
-use Prim.Native.Nat.{ℕ, _+_, _-_, _*_, _≤_, _<_}
+-- Laws of spreads: a spread is small. Rests on specs/Conflict and the ring's laws.
+use mathlib.Core.Bool.{Bool, true, false, cond, _&&_}
+use mathlib.Core.Logic.{inl, inr}
+use Prim.Native.Nat.{ℕ, _-_, _*_, _≤_}
 use native.Mathlib.Nat.{le-trans, mul-le-mul-left, mul-le-mul-right}
 use native.Mathlib.Omega.{arith}
+use lib.Dec.{ltb, leb, eqb}
+use Rattle.laws.proofs.Cases.{test}
+use Rattle.torus.proofs.Ring.{offset-below}
+use Rattle.flow.specs.declared.Flow.{Flow}
+use Rattle.flow.specs.Offsets.{ΔX, ΔY, sameClient}
+use Rattle.window.specs.declared.Conflict.{Conflict}
+use Rattle.window.specs.declared.Conflict.the-variants.{Free, Spread}
+use Rattle.window.specs.Conflict.{Pair, rowsTo, columnsTo, conflict, conflictEast, conflictSouth}
+use Rattle.window.specs.Rivals.{mostSpread}
 
 -- r rows of the torus, a lap round the row for each
-pub laps-most : (r sx : ℕ) → r ≤ 16 → sx ≤ 16 → r * sx ≤ 256
+pub laps-most : (r sx : ℕ) → r ≤ 16 → sx ≤ 16 → r * sx ≤ mostSpread
 laps-most r sx h l = le-trans (mul-le-mul-right sx h) (mul-le-mul-left 16 l)
+
+-- the conflict names no larger spread
+pub data SpreadMost : Conflict → Type 0 where
+  none : SpreadMost Free
+  some : {j : ℕ} → j ≤ mostSpread → SpreadMost (Spread j)
+
+either : (b : Bool) {c d : Conflict} → SpreadMost c → SpreadMost d → SpreadMost (cond b c d)
+either true h k = h
+either false h k = k
+
+module _ (sx sy : ℕ) (f g : Flow) (h : Pair sx sy f g) where
+  rows-most : rowsTo sy f g ≤ 16
+  rows-most = omega (arith, offset-below sy (g .ys) (f .ys) (h .other .ys-on) (h .own .ys-on), h .sy-most)
+
+  east-most : SpreadMost (conflictEast sx sy f g)
+  unfolding conflictEast
+  east-most =
+      either (eqb (rowsTo sy f g) 0)
+      (either (leb 1 (columnsTo sx f g) && leb (columnsTo sx f g) (ΔX sx g)) (some {j = 0} (omega arith)) none)
+      (either (leb (rowsTo sy f g) (ΔY sy g)) (some (laps-most (rowsTo sy f g - 1) sx (omega (arith, rows-most)) (h .sx-most))) none)
+
+  south-most : SpreadMost (conflictSouth sx sy f g)
+  unfolding conflictSouth
+  south-most =
+      either (eqb (g .xd) (f .xs) && leb (rowsTo sy f g) (ΔY sy g)) (some (laps-most (rowsTo sy f g) sx rows-most (h .sx-most))) none
+
+  pub spread-most : SpreadMost (conflict sx sy f g)
+  unfolding conflict
+  spread-most =
+      either (sameClient f g) (some {j = 0} (omega arith))
+      (elim (test (ltb 0 (ΔX sx f))) [ inl east ↦ rw east east-most | inr south ↦ rw south south-most ])

@@ -1,8 +1,7 @@
 -- Laws of the window T, for whoever has or seeks one; they open neither the search nor I. Rests on Least and Interference.
 use mathlib.Core.Path.{_≡_}
-use Prim.Native.Nat.{ℕ, _+_, _≤_, _<_}
+use Prim.Native.Nat.{ℕ, _+_, _≤_}
 use Rattle.flow.specs.Plan.{Plan}
-use Rattle.window.specs.declared.Found.{Found}
 use Rattle.window.specs.declared.Found.the-variants.{At, Nothing}
 use Rattle.window.specs.Window.{interference, mostWindow, windowOf}
 use Rattle.window.proofs.Least.{Least, Tried, at-least, none-tried, least-at, least-none, leap}

@@ -1,6 +1,6 @@
 -- Which flows conflict with f at its source, and with what spread J (01, Windows).
-use mathlib.Core.Bool.{Bool, cond, _&&_}
-use Prim.Native.Nat.{ℕ, _+_, _-_, _*_, _≤_}
+use mathlib.Core.Bool.{cond, _&&_}
+use Prim.Native.Nat.{ℕ, _-_, _*_, _≤_}
 use lib.Dec.{leb, eqb}
 use Rattle.torus.specs.Ring.{offset}
 use Rattle.flow.specs.declared.Flow.{Flow}

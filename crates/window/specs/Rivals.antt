@@ -1,7 +1,7 @@
 -- The rivals of a flow, the flows that conflict with it, as the search keeps them: three words each, σ, P and J.
 use mathlib.Core.List.{List}
 use mathlib.Core.Path.{_≡_}
-use Prim.Native.Nat.{ℕ, _+_, _-_, _*_, _≤_, _<_}
+use Prim.Native.Nat.{ℕ, _+_, _-_, _*_, _/_, _≤_, _<_}
 use lib.ListN.{length, getD, set}
 use Rattle.laws.specs.Bounded.{sumBelow}
 use Rattle.flow.specs.declared.Flow.{Flow}
@@ -9,15 +9,35 @@ use Rattle.flow.specs.Plan.{Plan, mostFlows, mostBurst}
 use Rattle.bucket.specs.Curve.{curve}
 use Rattle.window.specs.declared.Conflict.{Conflict}
 use Rattle.window.specs.declared.Conflict.the-variants.{Free, Spread}
-use Rattle.window.specs.Window.{interference}
+use Rattle.window.specs.Window.{shareOf}
+
+-- σ, P and J
+abbrev pub rivalWords : ℕ
+rivalWords = 3
+
+-- room for as many rivals as there can be flows
+abbrev pub mostRivalWords : ℕ
+mostRivalWords = rivalWords * mostFlows
 
 -- what rival number k of the words l adds to I(t)
 unfoldable pub rivalShare : List ℕ → ℕ → ℕ → ℕ
-rivalShare l t k = curve (getD l (3 * k) 0) (getD l (3 * k + 1) 0) (t - 1 + getD l (3 * k + 2) 0)
+rivalShare l t k = curve (getD l (rivalWords * k) 0) (getD l (rivalWords * k + 1) 0) (t - 1 + getD l (rivalWords * k + 2) 0)
 
 -- what the first n rivals of the words l add to I(t)
 unfoldable pub demandOf : List ℕ → ℕ → ℕ → ℕ
 demandOf l n t = sumBelow n (rivalShare l t)
+
+-- a link that is filled, in parts of a packet per cycle
+abbrev pub wholeLink : ℕ
+wholeLink = 4294967296
+
+-- the rate of rival number k of the words l, in those parts
+unfoldable pub rivalRate : List ℕ → ℕ → ℕ
+rivalRate l k = wholeLink / getD l (rivalWords * k + 1) 0
+
+-- the rates of the first n rivals of the words l
+unfoldable pub ratesOf : List ℕ → ℕ → ℕ
+ratesOf l n = sumBelow n (rivalRate l)
 
 -- the largest spread: fewer than 16 rows, at most 16 columns
 abbrev pub mostSpread : ℕ
@@ -25,20 +45,22 @@ mostSpread = 256
 
 -- rival number k of the words l has numbers in range
 pub record RivalOk (l : List ℕ) (k : ℕ) : Type 0 where
-  pub burst-most : getD l (3 * k) 0 ≤ mostBurst
-  pub period-least : 1 ≤ getD l (3 * k + 1) 0
-  pub spread-most : getD l (3 * k + 2) 0 ≤ mostSpread
+  pub burst-least : 1 ≤ getD l (rivalWords * k) 0
+  pub burst-most : getD l (rivalWords * k) 0 ≤ mostBurst
+  pub period-least : 1 ≤ getD l (rivalWords * k + 1) 0
+  pub spread-most : getD l (rivalWords * k + 2) 0 ≤ mostSpread
 
 -- the words l hold n rivals
 pub record Rivals (l : List ℕ) (n : ℕ) : Type 0 where
   pub few : n ≤ mostFlows
-  pub long : 3 * mostFlows ≤ length l
+  pub long : mostRivalWords ≤ length l
   pub rival-ok : (k : ℕ) → k < n → RivalOk l k
 
--- the words l hold the n rivals of flow number f: together they make I(t)
-pub record RivalsOf (p : Plan) (f : ℕ) (l : List ℕ) (n : ℕ) : Type 0 where
+-- the words l hold the n rivals of flow number f among the first m flows: together they add to I(t) what those flows do
+pub record RivalsAmong (p : Plan) (f m : ℕ) (l : List ℕ) (n : ℕ) : Type 0 where
   pub words : Rivals l n
-  pub sum : (t : ℕ) → demandOf l n t ≡ interference p f t
+  pub few : n ≤ m
+  pub sum : (t : ℕ) → demandOf l n t ≡ sumBelow m (shareOf p f t)
 
 -- words and the number of rivals in them
 pub record Kept : Type 0 where
@@ -51,4 +73,4 @@ kept n l = record { count = n; words = l }
 -- after n rivals, flow g with its conflict
 abbrev pub keptWith : List ℕ → ℕ → Flow → Conflict → Kept
 keptWith l n g Free = kept n l
-keptWith l n g (Spread j) = kept (n + 1) (set (set (set l (3 * n) (g .burst)) (3 * n + 1) (g .period)) (3 * n + 2) j)
+keptWith l n g (Spread j) = kept (n + 1) (set (set (set l (rivalWords * n) (g .burst)) (rivalWords * n + 1) (g .period)) (rivalWords * n + 2) j)

@@ -1,8 +1,25 @@
 // Conflicts, windows and flight bounds. Rests on flow and bucket.
 ghost use mathlib.Core.Path.{_≡_};
+ghost use Prim.Native.Nat.{_+_, _*_, _<_, _≤_};
+ghost use lib.ListN.{length};
 ghost use Rattle.window.specs.Conflict.{Pair, conflict, conflictEast, conflictSouth};
+ghost use Rattle.window.specs.Window.{mostWindow, leastFrom, loneWait};
+ghost use Rattle.flow.specs.Plan.{FlowOk, mostSize, mostPeriod};
+ghost use Rattle.window.specs.Flight.{flightBound, mostFlight};
+ghost use Rattle.window.specs.Rivals.{rivalWords, rivalShare, rivalRate, ratesOf, wholeLink, demandOf, Rivals, RivalOk, kept, keptWith};
 use flow::Flow;
 use flow::Port;
+
+// Windows run from 1 to 65,535.
+pub const MOST_WINDOW: u32 = 65535;
+
+// A rival is kept as three words: its burst, its period and its spread.
+pub const RIVAL_WORDS: usize = 3;
+// A link that is filled, in parts of a packet per cycle.
+const WHOLE_LINK: u64 = 4294967296;
+
+// The words of 256 rivals.
+pub const MOST_RIVAL_WORDS: usize = 768;
 
 // How a flow meets another at its source: not at all, or in conflict with the spread J.
 pub enum Conflict {
@@ -47,7 +64,8 @@ fn conflict_south(sx: u32, sy: u32, f: Flow, g: Flow) -> Conflict
         return Conflict::Free;
     }
     let rows = torus::offset(sy, g.ys, f.ys);
-    if g.offset_y(sy) < rows {
+    let dy = g.offset_y(sy);
+    if dy < rows {
         return Conflict::Free;
     }
     Conflict::Spread(rows * sx)
@@ -66,4 +84,111 @@ pub fn conflict_of(sx: u32, sy: u32, f: Flow, g: Flow) -> Conflict
         Port::East => conflict_east(sx, sy, f, g),
         Port::South => conflict_south(sx, sy, f, g),
     }
+}
+
+// What rival number k adds to I(t).
+fn rival_share(rivals: &[u32], k: usize, t: u32) -> u32
+    requires { ⌜ (rivalWords * k + 2 < length (now rivals)) × ((RivalOk (now rivals) k) × ((1 ≤ t) × (t ≤ mostWindow))) ⌝ }
+    ensures { λ r. ⌜ r ≡ rivalShare (now (rivals .entry)) t k ⌝ }
+{
+    let at = RIVAL_WORDS * k;
+    bucket::most_entries(rivals[at], rivals[at + 1], t - 1 + rivals[at + 2])
+}
+
+// What the first n rivals add to I(t).
+fn demand(rivals: &[u32], n: usize, t: u32) -> u32
+    requires { ⌜ (Rivals (now rivals) n) × ((1 ≤ t) × (t ≤ mostWindow)) ⌝ }
+    ensures { λ r. ⌜ r ≡ demandOf (now (rivals .entry)) n t ⌝ }
+{
+    let mut sum = 0u32;
+    for k in 0..n {
+        sum += rival_share(rivals, k, t);
+    }
+    sum
+}
+
+// The rate of rival number k.
+fn rival_rate(rivals: &[u32], k: usize) -> u64
+    requires { ⌜ (rivalWords * k + 2 < length (now rivals)) × (RivalOk (now rivals) k) ⌝ }
+    ensures { λ r. ⌜ (r ≡ rivalRate (now (rivals .entry)) k) × (r ≤ wholeLink) ⌝ }
+{
+    let at = RIVAL_WORDS * k;
+    let period = rivals[at + 1];
+    WHOLE_LINK / (period as u64)
+}
+
+// The rates of the first n rivals.
+fn rates_of(rivals: &[u32], n: usize) -> u64
+    requires { ⌜ Rivals (now rivals) n ⌝ }
+    ensures { λ r. ⌜ r ≡ ratesOf (now (rivals .entry)) n ⌝ }
+{
+    let mut sum = 0u64;
+    for k in 0..n {
+        sum += rival_rate(rivals, k);
+    }
+    sum
+}
+
+// The search for the least window. Where the rivals leave none at t, none is left up to their demand.
+fn search(rivals: &[u32], n: usize) -> Found
+    requires { ⌜ Rivals (now rivals) n ⌝ }
+    ensures { λ r. ⌜ r ≡ leastFrom (demandOf (now (rivals .entry)) n) mostWindow 1 ⌝ }
+{
+    let mut t = 1u32;
+    loop {
+        if MOST_WINDOW < t {
+            break Found::Nothing;
+        }
+        let d = demand(rivals, n, t);
+        if d < t {
+            break Found::At(t);
+        }
+        t = d + 1;
+    }
+}
+
+// The least window that the n rivals leave. Where their rates fill the link there is none.
+pub fn least_window(rivals: &[u32], n: usize) -> Found
+    requires { ⌜ Rivals (now rivals) n ⌝ }
+    ensures { λ r. ⌜ r ≡ leastFrom (demandOf (now (rivals .entry)) n) mostWindow 1 ⌝ }
+{
+    if WHOLE_LINK <= rates_of(rivals, n) {
+        return Found::Nothing;
+    }
+    search(rivals, n)
+}
+
+// Flow g with its conflict, after n rivals: three words more if it is one.
+pub fn keep_rival(rivals: &mut [u32], n: usize, g: Flow, c: Conflict) -> usize
+    requires { ⌜ rivalWords * n + 2 < length (now rivals) ⌝ }
+    ensures { λ r. ⌜ kept r (now (rivals .exit)) ≡ keptWith (now (rivals .entry)) n g c ⌝ }
+{
+    match c {
+        Conflict::Free => n,
+        Conflict::Spread(j) => {
+            let at = RIVAL_WORDS * n;
+            rivals[at] = g.burst;
+            rivals[at + 1] = g.period;
+            rivals[at + 2] = j;
+            n + 1
+        }
+    }
+}
+
+// The most cycles of a flow's packet from entry to exit, with 2.
+pub fn flight_bound(sx: u32, sy: u32, f: Flow) -> u32
+    requires { ⌜ (FlowOk sx sy f) × ((sx ≤ mostSize) × (sy ≤ mostSize)) ⌝ }
+    ensures { λ r. ⌜ (r ≡ flightBound sx sy f) × (r ≤ mostFlight) ⌝ }
+{
+    let dx = f.offset_x(sx);
+    let dy = f.offset_y(sy);
+    dx + dy + dy * sx + 2
+}
+
+// A lone packet's longest wait, by the flow's window.
+pub fn lone_wait(f: Flow, window: u32) -> u32
+    requires { ⌜ ((1 ≤ f .period) × (f .period ≤ mostPeriod)) × ((1 ≤ window) × (window ≤ mostWindow)) ⌝ }
+    ensures { λ r. ⌜ r ≡ loneWait f window ⌝ }
+{
+    f.period + window - 2
 }

@@ -1,7 +1,7 @@
 -- `flows_fit`: the flows passed fit.
 use mathlib.Core.Bool.{true}
 use mathlib.Core.Path.{_≡_, sym}
-use Prim.Native.Nat.{ℕ, _≤_, _-_}
+use Prim.Native.Nat.{_≤_, _-_}
 use native.Mathlib.Omega.{arith}
 use Rattle.laws.specs.Bounded.{allBelow}
 use Rattle.laws.proofs.Cases.{told-not, told-not′}

@@ -22,7 +22,7 @@ abbrev μ-loop : tie.MeasureT-loop
 
 returns : tie.Need-returns Inv-loop μ-loop
 unfolding tagged
-returns c = sym (all-fails _ 4 (c .before .before .before .before .loop .k) (c .before .before .before .loop-test .taken) (ne-eqb _ _ (c .if1 .taken)))
+returns c = sym (all-fails _ 4 (c .before .before .before .before .loop .k) (omega arith) (ne-eqb _ _ (c .if1 .taken)))
 
 loop-again : tie.Need-loop-again Inv-loop μ-loop
 loop-again c =

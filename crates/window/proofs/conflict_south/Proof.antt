@@ -22,12 +22,12 @@ unfolding conflictSouth
 returns-3 c =
     rw (eq-eqb _ _ (c .before .before .before .if1 .left), ← (c .before .before .offset .ensures), ← (c .before .offset-y .ensures), le-leb _ _ (c .if2 .left))
 
-mul-t7 : tie.Need-mul-t7
-mul-t7 c =
+mul-t8 : tie.Need-mul-t8
+mul-t8 c =
     let p = c .before .before .before .before .before .before .pre in
     let rows = offset-below _ _ _ (p .other .ys-on) (p .own .ys-on) in
     let told = c .before .before .offset .ensures in
     omega (arith, laps-most (c .before .before .offset .result) (c .before .before .before .before .before .before .args .sx) (omega arith) (p .sx-most))
 
 pub conflict-south-spec : {M : Type 1} → statement M
-conflict-south-spec = tie.close (tie.spec returns (λ c κs. search needs) (λ c κs. search needs) returns-2 mul-t7 returns-3)
+conflict-south-spec = tie.close (tie.spec returns (λ c κs. search needs) (λ c κs. search needs) returns-2 mul-t8 returns-3)

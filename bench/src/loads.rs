@@ -1,0 +1,76 @@
+//! The plans and states that are timed: three sizes, each lightly and fully loaded.
+
+use crate::plain::Plain;
+use second::host::Engine;
+use second::plan::{Flow, Plan};
+use second::random::Random;
+
+/// How much traffic a plan asks for.
+#[derive(Clone, Copy, Debug, PartialEq)]
+pub enum Load {
+    /// Flows all over the torus that send seldom.
+    Light,
+    /// Flows of one client that nearly fill it: windows near 65,535, found by many small leaps.
+    Climbing,
+    /// Flows all over the torus that send whenever they can.
+    Saturated,
+}
+
+/// Sizes of the torus, and flows.
+pub const SIZES: [(i64, usize); 3] = [(4, 16), (8, 64), (16, 256)];
+
+pub struct Case {
+    pub size: i64,
+    pub flows: usize,
+    pub load: Load,
+    pub file: Vec<u8>,
+}
+
+/// One flow from every client to a random one; or, climbing, all flows from one client.
+pub fn case(size: i64, flows: usize, load: Load) -> Case {
+    let mut random = Random::new(flows as u64);
+    let count = flows as i64;
+    let flow = |f: i64| {
+        let (xs, ys) = (f % size, f / size);
+        let (xd, yd) = (random.from(0, size - 1), random.from(0, size - 1));
+        match load {
+            Load::Light => Flow { xs, ys, xd, yd, period: 10 * count, burst: 1 },
+            Load::Saturated => Flow { xs, ys, xd, yd, period: 1, burst: 2 },
+            Load::Climbing => {
+                Flow { xs: 0, ys: 0, xd, yd, period: count, burst: climbing_burst(f, count) }
+            }
+        }
+    };
+    let plan = Plan { sx: size, sy: size, flows: (0..count).map(flow).collect() };
+    Case { size, flows, load, file: plan.file(&[]) }
+}
+
+/// With count − 1 rivals of period count, T is count × (their bursts − count + 2).
+fn climbing_burst(f: i64, count: i64) -> i64 {
+    let bursts = 65_535 / count + count - 2;
+    (bursts / count + (f < bursts % count) as i64).min(255)
+}
+
+impl Case {
+    pub fn words(&self) -> usize {
+        8 + 10 * self.flows + 8 * self.routers()
+    }
+
+    pub fn routers(&self) -> usize {
+        (self.size * self.size) as usize
+    }
+
+    /// The state after some hundred cycles, with packets of every flow waiting.
+    pub fn state(&self) -> Vec<u32> {
+        let mut state = vec![0; self.words()];
+        let mut delivery = vec![0; 5 * self.routers()];
+        Plain.reset(&self.file, &mut state);
+        for flow in 0..self.flows {
+            state[8 + 10 * flow + 9] = 30_000;
+        }
+        for _ in 0..300 {
+            Plain.step(&mut state, &mut delivery);
+        }
+        state
+    }
+}

@@ -1,0 +1,175 @@
+//! Reset, offer, step and write.
+
+use super::plan::{numbers, read};
+use super::state::{EMPTY, FlowWords, Register, State, state};
+use super::{Plain, next, refused};
+use second::host::Engine;
+use std::mem::replace;
+
+/// Which flow enters at each client (its number + 1), decided and spent; all buckets counted.
+fn enter(sx: usize, flows: &mut [FlowWords], registers: &[Register]) -> [u16; 256] {
+    let mut entering = [0; 256];
+    for f in 0..flows.len() {
+        let [xs, ys, xd, _, period, burst, mut tokens, mut count, _, waiting] = flows[f];
+        let client = ys as usize * sx + xs as usize;
+        if waiting > 0 && tokens > 0 && entering[client] == 0 {
+            let (w, n) = (registers[2 * client][0], registers[2 * client + 1][0]);
+            let turns = |w: u32| flows[w as usize - 1][2] == xs;
+            let open = if xs != xd { w == 0 } else { n == 0 && (w == 0 || !turns(w)) };
+            if open {
+                entering[client] = f as u16 + 1;
+                tokens -= 1;
+                flows[f][8] += 1;
+                flows[f][9] -= 1;
+            }
+        }
+        if tokens < burst {
+            count += 1;
+            if count == period {
+                (tokens, count) = (tokens + 1, 0);
+            }
+        }
+        flows[f][6] = tokens;
+        flows[f][7] = count;
+    }
+    entering
+}
+
+/// What moves in a cycle beside the registers: the flows, and those that enter.
+struct Cycle<'a> {
+    sx: usize,
+    sy: usize,
+    clock: u32,
+    flows: &'a [FlowWords],
+    entering: [u16; 256],
+}
+
+/// Moves every packet and writes the exits. Gives their count. A register is written only once its
+/// old packet has been taken: the next W is held, and the N registers of the row to come.
+fn route(cycle: &Cycle, registers: &mut [Register], delivery: &mut [[u32; 5]]) -> usize {
+    let &Cycle { sx, sy, clock, flows, ref entering } = cycle;
+    let mut exits = 0;
+    let mut north = [EMPTY; 16];
+    for (column, n) in north[..sx].iter_mut().enumerate() {
+        *n = registers[2 * column + 1];
+    }
+    for row in 0..sy {
+        let (this, below) = (row * sx, next(row, sy) * sx);
+        let mut w = registers[2 * this];
+        for (column, n) in north[..sx].iter_mut().enumerate() {
+            let mut east = EMPTY;
+            let mut south = EMPTY;
+            if w[0] != 0 {
+                let turns = flows[w[0] as usize - 1][2] == column as u32;
+                *(if turns { &mut south } else { &mut east }) = w;
+            }
+            if n[0] != 0 {
+                if south[0] != 0 {
+                    east = [n[0], n[1], n[2], n[3] + 1];
+                } else {
+                    south = *n;
+                }
+            }
+            let number = entering[this + column];
+            if number != 0 {
+                let flow = &flows[number as usize - 1];
+                let packet = [number as u32, flow[8], clock, 0];
+                *(if flow[0] == flow[2] { &mut south } else { &mut east }) = packet;
+            }
+            if south[0] != 0 && flows[south[0] as usize - 1][3] == row as u32 {
+                delivery[exits] = [south[0] - 1, south[1], south[2], clock, south[3]];
+                exits += 1;
+                south = EMPTY;
+            }
+            w = replace(&mut registers[2 * (this + next(column, sx))], east);
+            *n = replace(&mut registers[2 * (below + column) + 1], south);
+        }
+    }
+    exits
+}
+
+impl Engine for Plain {
+    fn reset(&self, file: &[u8], words: &mut [u32]) -> u64 {
+        let file = match read(file) {
+            Ok(file) => file,
+            Err(no) => return no,
+        };
+        let count = file.records.len();
+        let size = 8 + 10 * count + 8 * (file.sx * file.sy) as usize;
+        let Some(words) = words.get_mut(..size) else {
+            return refused(8, 0);
+        };
+        words[..8].copy_from_slice(&[file.sx, file.sy, count as u32, 0, 0, 0, 0, 0]);
+        let (flows, registers) = words[8..].split_at_mut(10 * count);
+        for (flow, record) in flows.as_chunks_mut().0.iter_mut().zip(file.records) {
+            let [xs, ys, xd, yd, period, burst] = numbers(record);
+            *flow = [xs, ys, xd, yd, period, burst, burst, 0, 0, 0];
+        }
+        registers.fill(0);
+        0
+    }
+
+    fn offer(&self, words: &mut [u32], flow: u32) -> u64 {
+        let flows = match state(words) {
+            Ok(state) => state.flows,
+            Err(no) => return no,
+        };
+        match flows.get(flow as usize) {
+            None => refused(12, 0),
+            Some(words) if words[9] == 65_535 => refused(13, 0),
+            Some(_) => {
+                words[8 + 10 * flow as usize + 9] += 1;
+                0
+            }
+        }
+    }
+
+    fn step(&self, words: &mut [u32], delivery: &mut [u32]) -> u64 {
+        let State { sx, sy, clock, flows, .. } = match state(words) {
+            Ok(state) => state,
+            Err(no) => return no,
+        };
+        if delivery.len() < 5 * sx * sy {
+            return refused(10, 0);
+        }
+        if clock == u32::MAX {
+            return refused(11, 0);
+        }
+        let count = flows.len();
+        words[3] = clock + 1;
+        let (flows, registers) = words[8..].split_at_mut(10 * count);
+        let flows = flows.as_chunks_mut().0;
+        let registers = &mut registers.as_chunks_mut().0[..2 * sx * sy];
+        let entering = enter(sx, flows, registers);
+        let cycle = Cycle { sx, sy, clock, flows, entering };
+        route(&cycle, registers, delivery.as_chunks_mut().0) as u64
+    }
+
+    fn write(&self, words: &[u32], notes: &[u8], target: &mut [u8]) -> u64 {
+        let state = match state(words) {
+            Ok(state) => state,
+            Err(no) => return no,
+        };
+        let start = notes.len();
+        let trailer = start + 8 * state.flows.len();
+        let length = trailer + 12;
+        if length > 65_536 {
+            return refused(1, 0);
+        }
+        let Some(target) = target.get_mut(..length) else {
+            return refused(15, 0);
+        };
+        target[..start].copy_from_slice(notes);
+        let records = target[start..trailer].as_chunks_mut().0;
+        for (record, flow) in records.iter_mut().zip(state.flows) {
+            let [xs, ys, xd, yd, period, burst] = [0, 1, 2, 3, 4, 5].map(|i| flow[i] as u8);
+            *record = [xs, ys, xd, yd, period, (flow[4] >> 8) as u8, burst, 0];
+        }
+        let count = state.flows.len() as u16;
+        target[trailer..trailer + 4].copy_from_slice(&(start as u32).to_le_bytes());
+        target[trailer + 4..trailer + 6].copy_from_slice(&count.to_le_bytes());
+        target[trailer + 6..trailer + 8].copy_from_slice(&[state.sx as u8, state.sy as u8]);
+        target[trailer + 8..].copy_from_slice(b"HRTP");
+        length as u64
+    }
+}

@@ -1,0 +1,24 @@
+//! The calls in plain Rust: the honest baseline. Written for speed, with every check of 01's
+//! table, on the same memory; safe Rust with no heap.
+
+mod bounds;
+mod engine;
+mod plan;
+mod state;
+
+/// The plain engine.
+pub struct Plain;
+
+fn refused(number: u64, place: usize) -> u64 {
+    number << 32 | place as u64
+}
+
+/// (to − from) mod size, for numbers below the size.
+fn offset(from: u32, to: u32, size: u32) -> u32 {
+    if to >= from { to - from } else { to + size - from }
+}
+
+/// The place after this one on a ring of so many.
+fn next(place: usize, size: usize) -> usize {
+    if place + 1 == size { 0 } else { place + 1 }
+}

@@ -1,0 +1,99 @@
+//! The words of a state: the refusals 8 and 9.
+
+use super::{offset, refused};
+
+pub type FlowWords = [u32; 10];
+pub type Register = [u32; 4];
+
+pub const EMPTY: Register = [0; 4];
+
+/// The words of a state, in their parts.
+pub struct State<'a> {
+    pub sx: usize,
+    pub sy: usize,
+    pub clock: u32,
+    pub flows: &'a [FlowWords],
+    registers: &'a [Register],
+}
+
+fn split(words: &[u32]) -> Result<State<'_>, u64> {
+    let Some((&[sx, sy, count, clock, ref zeros @ ..], rest)) = words.split_first_chunk::<8>()
+    else {
+        return Err(refused(8, 0));
+    };
+    let in_range = (1..=16).contains(&sx) && (1..=16).contains(&sy) && (1..=256).contains(&count);
+    if !in_range || *zeros != [0; 4] {
+        return Err(refused(9, 0));
+    }
+    let (sx, sy, count) = (sx as usize, sy as usize, count as usize);
+    if rest.len() < 10 * count + 8 * sx * sy {
+        return Err(refused(8, 0));
+    }
+    let (flows, rest) = rest.split_at(10 * count);
+    let (flows, registers) = (flows.as_chunks().0, rest[..8 * sx * sy].as_chunks().0);
+    Ok(State { sx, sy, clock, flows, registers })
+}
+
+/// The state's parts, if the words form one.
+pub fn state(words: &[u32]) -> Result<State<'_>, u64> {
+    let state = split(words)?;
+    let flows_hold = state.flows.iter().all(|flow| flow_holds(&state, flow));
+    if flows_hold && registers_hold(&state) { Ok(state) } else { Err(refused(9, 0)) }
+}
+
+fn flow_holds(state: &State, flow: &FlowWords) -> bool {
+    let [xs, ys, xd, yd, period, burst, tokens, count, entered, waiting] = *flow;
+    let (sx, sy) = (state.sx as u32, state.sy as u32);
+    xs < sx
+        && xd < sx
+        && ys < sy
+        && yd < sy
+        && (1..=65_535).contains(&period)
+        && (1..=255).contains(&burst)
+        && tokens <= burst
+        && count < period
+        && (tokens < burst || count == 0)
+        && waiting <= 65_535
+        && entered <= state.clock
+}
+
+fn registers_hold(state: &State) -> bool {
+    let mut registers = state.registers.iter();
+    for row in 0..state.sy as u32 {
+        for column in 0..state.sx as u32 {
+            for north in [false, true] {
+                let register = registers.next().unwrap();
+                if *register != EMPTY && !in_place(state, row, column, north, register) {
+                    return false;
+                }
+            }
+        }
+    }
+    true
+}
+
+fn in_place(state: &State, row: u32, column: u32, north: bool, register: &Register) -> bool {
+    let [number, serial, entry, d] = *register;
+    let Some(flow) = state.flows.get((number as usize).wrapping_sub(1)) else {
+        return false;
+    };
+    let (sx, sy) = (state.sx as u32, state.sy as u32);
+    let [xs, ys, xd, yd, ..] = *flow;
+    let e = state.clock.wrapping_sub(entry);
+    let (r, dx, dy) = (offset(ys, row, sy), offset(xs, xd, sx), offset(ys, yd, sy));
+    if serial == 0 || serial > flow[8] || entry >= state.clock || r > dy {
+        return false;
+    }
+    if north {
+        return column == xd && d < r && e == dx + r + d * sx;
+    }
+    if r == 0 {
+        let j = offset(xs, column, sx);
+        return 1 <= j && j <= dx && d == 0 && e == j;
+    }
+    let j = match offset(xd, column, sx) {
+        0 => sx,
+        j => j,
+    };
+    1 <= d && d <= r && e == dx + r + (d - 1) * sx + j
+}

@@ -1,0 +1,23 @@
+-- The starred cases of 01 hold of the definitions.
+use mathlib.Core.List.{List, [], _∷_, _++_, map}
+use mathlib.Core.Path.{refl}
+use Rattle.laws.specs.Bounded as Bounded
+use Rattle.torus.specs.Ring as Ring
+use Rattle.bucket.specs.Regulator as Regulator
+use Rattle.window.specs.Cases as Window
+use Rattle.window.proofs.Cases as Windows
+use Rattle.book.specs.Cycle.{westTurns, sent, ready, enters, lowest, deliveries}
+use Rattle.book.specs.Calls.{refusal, feed}
+use Rattle.book.specs.Cases.{Case, bounds, starred, onCycle, AllHold}
+
+-- the windows' rows, and more
+joined : (ws : List Window.Case) (cs : List Case) → Window.AllHold ws → AllHold cs → AllHold (map bounds ws ++ cs)
+joined [] cs w h = h
+joined (c ∷ ws) cs w h = (w .0, joined ws cs (w .1) h)
+
+on-cycle : AllHold onCycle
+unfolding Bounded.tabulate Bounded.anyBelow Ring.offset Ring.next Regulator.afterCount Regulator.afterCycle westTurns sent ready enters lowest deliveries refusal feed
+on-cycle = ((refl, refl), ((refl, refl), ((refl, refl), ((refl, refl), (refl, (refl, (refl, tt)))))))
+
+pub starred-hold : AllHold starred
+starred-hold = joined Window.starred onCycle Windows.starred-hold on-cycle

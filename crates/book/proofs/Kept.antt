@@ -1,0 +1,142 @@
+-- What every list of calls keeps: the paths, queues, buckets, places and paces of the book, and the bounds of its numbers.
+-- Rests on the files that keep each of them through an offer and a step.
+use mathlib.Core.Bool.{Bool, true}
+use mathlib.Core.List.{List, [], _∷_}
+use mathlib.Core.Logic.{inl, inr, _≢_}
+use mathlib.Core.Path.{_≡_, ap}
+use Prim.Native.Nat.{ℕ, suc, _+_, _≤_, _<_}
+use native.Mathlib.Nat.{le-trans}
+use native.Mathlib.Decide.{ℕ-discrete}
+use native.Mathlib.Omega.{arith}
+use borrow.Author.Tests.{leb-false, eqb-false, ne-eqb}
+use lib.Dec.{ltb, leb, eqb}
+use lib.ListN.{length}
+use Rattle.laws.specs.Count.{count}
+use Rattle.laws.proofs.Cases.{test, and-true}
+use Rattle.laws.proofs.Count.{one-most, count-map, count-append, count-mono}
+use Rattle.flow.specs.Plan.{Plan, flowAt, PlanOk}
+use Rattle.window.specs.Window.{interference}
+use Rattle.book.specs.Line.{Line, isWaiting}
+use Rattle.book.specs.Book.{Book, ofFlow, waitsFor, waitingOf, enteredOf, start, offered, offeredLine}
+use Rattle.book.specs.Cycle.{enters, move, stepped, Delivery}
+use Rattle.book.specs.Calls.{Call, offer, step, refused, refusal, roomFor, lastClock, mostWaiting, Fed, accepted, feed, runFrom, run}
+use Rattle.book.proofs.Moves.{turn, waited}
+use Rattle.book.proofs.Queue.{entered-step, entered-offer}
+use Rattle.book.proofs.Spans.{Lawful, lawful-start, lawful-offer, lawful-step}
+use Rattle.book.proofs.Outputs.{Apart}
+use Rattle.book.proofs.Places.{apart-step, apart-offer}
+use Rattle.book.proofs.Pace.{Pace, pace-start, pace-offer, pace-step}
+use Rattle.book.proofs.Deliveries.{gone, step-delivered}
+
+pub record Kept (p : Plan) (b : Book) : Type 0 where
+  pub lawful : Lawful p b
+  pub apart : Apart b
+  pub pace : (f : ℕ) → f < length (p .flows) → (T H : ℕ) → suc H ≡ (flowAt p f) .period + T → interference p f T < T → Pace p b f T H
+  pub clock-most : b .clock ≤ lastClock
+  pub waiting-most : (f : ℕ) → waitingOf b f ≤ mostWaiting
+  pub entered-most : (f : ℕ) → enteredOf b f ≤ b .clock
+
+-- a call is refused, or it is an offer to a flow of the plan with room in its queue, or a step before the last clock
+pub feed-cases : (p : Plan) (b : Book) (Q : Fed → Type 0)
+    → ((n : ℕ) → Q (record { book = b; reply = refused n 0; delivered = [] }))
+    → ((f : ℕ) → f < length (p .flows) → waitingOf b f < mostWaiting → Q (accepted p b (offer f)))
+    → ((room : ℕ) → b .clock ≢ lastClock → Q (accepted p b (step room))) → (c : Call) → Q (feed p b c)
+unfolding feed refusal
+feed-cases p b Q refuses offers steps (offer f) =
+    elim (test (leb (length (p .flows)) f)) [
+      | inl t ↦ rw t (refuses 12)
+      | inr t ↦ elim (test (leb mostWaiting (waitingOf b f))) [
+        | inl w ↦ rw (t, w) (refuses 13)
+        | inr w ↦ rw (t, w) (offers f (leb-false _ _ t) (leb-false _ _ w))
+      ]
+    ]
+feed-cases p b Q refuses offers steps (step room) =
+    elim (test (ltb room (roomFor p))) [
+      | inl t ↦ rw t (refuses 10)
+      | inr t ↦ elim (test (eqb (b .clock) lastClock)) [
+        | inl w ↦ rw (t, w) (refuses 11)
+        | inr w ↦ rw (t, w) (steps room (eqb-false _ _ w))
+      ]
+    ]
+
+module _ (p : Plan) where
+  pub kept-start : PlanOk p → Kept p (start p)
+  kept-start ok =
+      record {
+        lawful = lawful-start p ok;
+        apart = λ at. omega arith;
+        pace = λ f l T H sum window. pace-start p f l T H sum window (lawful-start p ok);
+        clock-most = omega arith;
+        waiting-most = λ f. omega arith;
+        entered-most = λ f. omega arith;
+      }
+
+  module _ (b : Book) (k : Kept p b) where
+    kept-offer : (f : ℕ) → f < length (p .flows) → waitingOf b f < mostWaiting → Kept p (offered b f)
+    kept-offer f in-plan room =
+        record {
+          lawful = lawful-offer p b (k .lawful) f in-plan;
+          apart = apart-offer b (k .apart) f;
+          pace = λ g l T H sum window. pace-offer p g l T H sum window b (k .lawful) (k .pace g l T H sum window) f;
+          clock-most = k .clock-most;
+          waiting-most = more;
+          entered-most = λ g. rw (entered-offer b f g) (k .entered-most g);
+        }
+      where
+        more : (g : ℕ) → waitingOf (offered b f) g ≤ mostWaiting
+        more g =
+            let split = count-append (waitsFor g) (b .lines) (offeredLine b f ∷ []) in
+            elim (ℕ-discrete f g) [
+              | yes e ↦ omega (arith, split, one-most (waitsFor g (offeredLine b f)), ap (waitingOf b) e)
+              | no e ↦ rw (split, ne-eqb f g e) (omega (arith, k .waiting-most g))
+            ]
+
+    kept-step : b .clock ≢ lastClock → Kept p (stepped p b)
+    kept-step early =
+        record {
+          lawful = lawful-step p b (k .lawful);
+          apart = apart-step p b (k .lawful) (k .apart);
+          pace = λ g l T H sum window. pace-step p g l T H sum window b (k .lawful) (k .pace g l T H sum window);
+          clock-most = omega (arith, k .clock-most);
+          waiting-most = fewer;
+          entered-most = λ f. omega (arith, entered-step b (k .lawful .queued) p f, one-most (enters p b f), k .entered-most f);
+        }
+      where
+        waited-for : (f : ℕ) (l : Line) → waitsFor f (move p b l) ≡ true → waitsFor f l ≡ true
+        waited-for f l t =
+            let h = and-true (ofFlow f l) (isWaiting ((move p b l) .stage)) t in rw (h .0) (waited p b l (turn p b l) (h .1))
+
+        fewer : (f : ℕ) → waitingOf (stepped p b) f ≤ mostWaiting
+        fewer f =
+            rw (count-map (waitsFor f) (move p b) (b .lines))
+            (le-trans (count-mono (λ l. waitsFor f (move p b l)) (waitsFor f) (b .lines) (λ l m t. waited-for f l t)) (k .waiting-most f))
+
+    pub kept-feed : (c : Call) → Kept p (feed p b c .book)
+    kept-feed c = feed-cases p b (λ (fed : Fed). Kept p (fed .book)) (λ n. k) kept-offer (λ room early. kept-step early) c
+
+    -- what a call delivers is what it lets leave
+    feed-delivered : (r : Delivery → Bool) (c : Call) → count (gone r) (feed p b c .book .lines) ≡ count (gone r) (b .lines) + count r (feed p b c .delivered)
+    feed-delivered r c =
+        feed-cases p b (λ (fed : Fed). count (gone r) (fed .book .lines) ≡ count (gone r) (b .lines) + count r (fed .delivered))
+        (λ n. omega arith)
+        (λ f l room. omega (arith, count-append (gone r) (b .lines) (offeredLine b f ∷ [])))
+        (λ room early. step-delivered p b (k .lawful) r)
+        c
+
+  kept-from : (cs : List Call) (b : Book) → Kept p b → Kept p (runFrom p b cs .book)
+  kept-from [] b k = k
+  kept-from (c ∷ cs) b k = kept-from cs (feed p b c .book) (kept-feed b k c)
+
+  delivered-from : (r : Delivery → Bool) (cs : List Call) (b : Book) → Kept p b
+      → count (gone r) (runFrom p b cs .book .lines) ≡ count (gone r) (b .lines) + count r (runFrom p b cs .delivered)
+  delivered-from r [] b k = omega arith
+  delivered-from r (c ∷ cs) b k =
+      let later = delivered-from r cs (feed p b c .book) (kept-feed b k c) in
+      omega (arith, feed-delivered b k r c, count-append r (feed p b c .delivered) (runFrom p (feed p b c .book) cs .delivered))
+
+  -- after every list from the start
+  pub kept-run : PlanOk p → (cs : List Call) → Kept p (run p cs .book)
+  kept-run ok cs = kept-from cs (start p) (kept-start ok)
+
+  pub delivered-run : PlanOk p → (r : Delivery → Bool) (cs : List Call) → count (gone r) (run p cs .book .lines) ≡ count r (run p cs .delivered)
+  delivered-run ok r cs = omega (arith, delivered-from r cs (start p) (kept-start ok))

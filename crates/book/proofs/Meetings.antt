@@ -1,0 +1,90 @@
+-- Where a flow g passes the source of f: after a fixed travel K, within the spread J of 01's windows, past a point of its way.
+-- Rests on Path; the spread is that of the windows' conflict.
+use mathlib.Core.Bool.{Bool, true, false, cond, _&&_, and-false}
+use mathlib.Core.Logic.{inl, inr}
+use mathlib.Core.Path.{_≡_}
+use Prim.Native.Nat.{ℕ, suc, _+_, _-_, _*_, _≤_, _<_}
+use native.Mathlib.Omega.{arith}
+use borrow.Author.Tests.{lt-ltb, le-ltb, le-leb, ltb-true, leb-true}
+use lib.Dec.{ltb, leb, eqb}
+use Rattle.laws.proofs.Cases.{test, and-true}
+use Rattle.torus.specs.Ring.{lap}
+use Rattle.flow.specs.declared.Flow.{Flow}
+use Rattle.flow.specs.declared.Port.{Port}
+use Rattle.flow.specs.declared.Port.the-variants.{East, South}
+use Rattle.flow.specs.Offsets.{ΔX, ΔY, portOf, sameClient}
+use Rattle.window.specs.declared.Conflict.{Conflict}
+use Rattle.window.specs.declared.Conflict.the-variants.{Free, Spread}
+use Rattle.window.specs.Conflict.{rowsTo, columnsTo, conflict, conflictEast, conflictSouth}
+
+-- g never meets f, or after K cycles and at most J more, when its progress is past the point
+pub data Meeting : Type 0 where
+  never : Meeting
+  meets : (K J point : ℕ) → Meeting
+
+-- f's port is E: g is in f's row first, or comes to it later
+abbrev pub meetingEast : ℕ → ℕ → Flow → Flow → Meeting
+meetingEast sx sy f g =
+    let r : ℕ = rowsTo sy f g in
+    let j : ℕ = columnsTo sx f g in
+    let k : ℕ = lap sx (g .xd) (f .xs) in
+    cond (eqb r 0)
+    (cond (leb 1 j && leb j (ΔX sx g)) (meets j 0 j) never)
+    (cond (leb r (ΔY sy g)) (meets (ΔX sx g + r + k) ((r - 1) * sx) (r * suc sx + k)) never)
+
+-- f's port is S: g comes down f's column
+abbrev pub meetingSouth : ℕ → ℕ → Flow → Flow → Meeting
+meetingSouth sx sy f g =
+    let r : ℕ = rowsTo sy f g in
+    cond (eqb (g .xd) (f .xs) && leb r (ΔY sy g)) (meets (ΔX sx g + r) (r * sx) (r * suc sx + sx)) never
+
+abbrev pub meetingAt : ℕ → ℕ → Flow → Flow → Port → Meeting
+meetingAt sx sy f g East = meetingEast sx sy f g
+meetingAt sx sy f g South = meetingSouth sx sy f g
+
+-- flows of one client meet at their entry
+unfoldable pub meeting : ℕ → ℕ → Flow → Flow → Meeting
+meeting sx sy f g = cond (sameClient f g) (meets 0 0 0) (meetingAt sx sy f g (portOf sx f))
+
+abbrev pub spreadOf : Meeting → Conflict
+spreadOf never = Free
+spreadOf (meets K J point) = Spread J
+
+-- the spread is the conflict's
+pub meeting-conflict : (sx sy : ℕ) (f g : Flow) → spreadOf (meeting sx sy f g) ≡ conflict sx sy f g
+unfolding meeting conflict conflictEast conflictSouth
+meeting-conflict sx sy f g =
+    elim (test (sameClient f g)) [
+      | inl same ↦ rw same
+      | inr other ↦ elim (test (ltb 0 (ΔX sx f))) [
+        | inl east ↦ elim (test (eqb (rowsTo sy f g) 0)) [
+          | inl row ↦ elim (test (leb 1 (columnsTo sx f g) && leb (columnsTo sx f g) (ΔX sx g))) [ inl t ↦ rw (other, east, row, t) | inr t ↦ rw (other, east, row, t) ]
+          | inr row ↦ elim (test (leb (rowsTo sy f g) (ΔY sy g))) [ inl t ↦ rw (other, east, row, t) | inr t ↦ rw (other, east, row, t) ]
+        ]
+        | inr south ↦ elim (test (eqb (g .xd) (f .xs) && leb (rowsTo sy f g) (ΔY sy g))) [ inl t ↦ rw (other, south, t) | inr t ↦ rw (other, south, t) ]
+      ]
+    ]
+
+-- a packet with entry e and progress n has passed by clock c, not before cycle s
+abbrev pub passedBy : Meeting → (s c e n : ℕ) → Bool
+passedBy never s c e n = false
+passedBy (meets K J point) s c e n = leb s (e + K + J) && ltb (e + K) c && ltb point n
+
+pub passed-yes : (K J point s c e n : ℕ) → s ≤ e + K + J → e + K < c → point < n → passedBy (meets K J point) s c e n ≡ true
+passed-yes K J point s c e n h k l = rw (le-leb s (e + K + J) h, lt-ltb (e + K) c k, lt-ltb point n l)
+
+pub passed-no : (K J point s c e n : ℕ) → n ≤ point → passedBy (meets K J point) s c e n ≡ false
+passed-no K J point s c e n l = rw (le-ltb point n l) (and-false (leb s (e + K + J) && ltb (e + K) c))
+
+pub passed-parts : (K J point s c e n : ℕ) → passedBy (meets K J point) s c e n ≡ true → (s ≤ e + K + J) × (e + K < c) × (point < n)
+passed-parts K J point s c e n h =
+    let a = and-true _ _ h in
+    let b = and-true _ _ (a .0) in
+    (leb-true s (e + K + J) (b .0), ltb-true (e + K) c (b .1), ltb-true point n (a .1))
+
+-- who has passed stays so, as the clock and the progress rise
+pub passed-stays : (m : Meeting) (s c c′ e n n′ : ℕ) → c ≤ c′ → n ≤ n′ → passedBy m s c e n ≡ true → passedBy m s c′ e n′ ≡ true
+passed-stays never s c c′ e n n′ h k t = t
+passed-stays (meets K J point) s c c′ e n n′ h k t =
+    let l = passed-parts K J point s c e n t in
+    passed-yes K J point s c′ e n′ (l .0) (omega arith) (omega arith)

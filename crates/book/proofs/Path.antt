@@ -1,0 +1,267 @@
+-- The path of a packet: 01's in-place conditions, told without differences, and its progress. One step keeps the conditions
+-- and raises the progress. Rests on the rules 1 and 2 of specs/Cycle. The topology is known here, to Meetings and Takers (where a way
+-- passes a source) and to Places (which output feeds a register), and to nobody else.
+use mathlib.Core.Bool.{false, cond, false≢true}
+use mathlib.Core.Logic.{_⊎_, inl, inr}
+use mathlib.Core.Path.{_≡_, refl, sym, ap, _∙_}
+use Prim.Native.Nat.{ℕ, suc, _+_, _*_, _≤_, _<_}
+use native.Mathlib.Nat.{add-zero, mul-le-mul-right}
+use native.Mathlib.Decide.{ℕ-discrete, decLt}
+use native.Mathlib.Omega.{arith}
+use borrow.Author.Tests.{lt-ltb, le-ltb, eq-eqb, ne-eqb}
+use lib.Dec.{eqb}
+use Rattle.laws.specs.Count.{one}
+use Rattle.laws.proofs.Cases.{test}
+use Rattle.torus.specs.Ring.{offset, next, lap}
+use Rattle.torus.proofs.Ring.{offset-below, offset-same, offset-zero, offset-on, offset-short, next-below, lap-first, lap-next, lap-whole, lap-most}
+use Rattle.flow.specs.declared.Flow.{Flow}
+use Rattle.flow.specs.declared.Port.the-variants.{East, South}
+use Rattle.flow.specs.Offsets.{ΔX, ΔY, portOf}
+use Rattle.flow.specs.Plan.{Plan, FlowOk}
+use Rattle.window.specs.Flight.{travel}
+use Rattle.book.specs.Line.{Place, W, N, columnOf, rowOf, Stage, waiting, placed, left, isWaiting, entryOf}
+use Rattle.book.specs.Book.{Book}
+use Rattle.book.specs.Cycle.{westTurns, output, deflects, sent}
+use Rattle.book.specs.InPlace.{rowsDone}
+
+module _ (p : Plan) (f : Flow) where
+  abbrev sx : ℕ
+  sx = p .sx
+
+  abbrev dx : ℕ
+  dx = ΔX (p .sx) f
+
+  abbrev dy : ℕ
+  dy = ΔY (p .sy) f
+
+  -- rows done, columns done in the source's row, and columns done of a round in a later row
+  abbrev r : ℕ → ℕ
+  r y = rowsDone (p .sy) f y
+
+  abbrev j : ℕ → ℕ
+  j x = offset (p .sx) (f .xs) x
+
+  abbrev k : ℕ → ℕ
+  k x = lap (p .sx) (f .xd) x
+
+  -- in N at clock c, with entry e and D deflections
+  pub record InNorth (c D e x y : ℕ) : Type 0 where
+    pub column : x ≡ f .xd
+    pub row : y < p .sy
+    pub least : 1 ≤ r y
+    pub most : r y ≤ dy
+    pub few : D < r y
+    pub time : c ≡ e + (dx + r y + D * sx)
+
+  -- in W of the source's row
+  pub record InFirst (c D e x y : ℕ) : Type 0 where
+    pub column : x < sx
+    pub row : y ≡ f .ys
+    pub least : 1 ≤ j x
+    pub most : j x ≤ dx
+    pub none : D ≡ 0
+    pub time : c ≡ e + j x
+
+  -- in W of a later row
+  pub record InLater (c D e x y : ℕ) : Type 0 where
+    pub column : x < sx
+    pub row : y < p .sy
+    pub least : 1 ≤ r y
+    pub most : r y ≤ dy
+    pub some : 1 ≤ D
+    pub few : D ≤ r y
+    pub time : c + sx ≡ e + (dx + r y + D * sx + k x)
+
+  -- left, in an earlier cycle
+  pub record Gone (c D e t x y : ℕ) : Type 0 where
+    pub column : x ≡ f .xd
+    pub row : y ≡ f .yd
+    pub few : D ≤ dy
+    pub time : t ≡ e + travel (p .sx) (p .sy) f D
+    pub past : t < c
+
+  -- a line of flow f with D deflections is where it can be at clock c
+  abbrev pub Sound : (c D : ℕ) → Stage → Type 0
+  Sound c D waiting = D ≡ 0
+  Sound c D (placed e (N x y)) = InNorth c D e x y
+  Sound c D (placed e (W x y)) = InFirst c D e x y ⊎ InLater c D e x y
+  Sound c D (left e t x y) = Gone c D e t x y
+
+  -- how far a packet has come in its row
+  abbrev pub along : (x y : ℕ) → ℕ
+  along x y = cond (eqb (r y) 0) (j x) (k x)
+
+  -- how far a packet has come: rows, then columns; above all once it has left
+  abbrev pub progress : Stage → ℕ
+  progress waiting = 0
+  progress (placed e (N x y)) = r y * suc sx
+  progress (placed e (W x y)) = r y * suc sx + along x y
+  progress (left e t x y) = suc dy * suc sx
+
+  -- a step in cycle c leads to the stage s, with progress more than n
+  pub record Leads (c D n : ℕ) (s : Stage) : Type 0 where
+    pub sound : Sound (c + 1) D s
+    pub rises : n < progress s
+
+  -- a packet goes S at the router in column x and row y, in cycle c
+  pub record GoesSouth (c D e x y : ℕ) : Type 0 where
+    pub column : x ≡ f .xd
+    pub row : y < p .sy
+    pub most : r y ≤ dy
+    pub few : D ≤ r y
+    pub time : c ≡ e + (dx + r y + D * sx)
+
+  leads-more : {c D n m : ℕ} {s : Stage} → m ≤ n → Leads c D n s → Leads c (D + 0) m s
+  leads-more l h = rw add-zero (record { sound = h .sound; rises = omega (arith, h .rises) })
+
+  pub along-first : (x y : ℕ) → r y ≡ 0 → along x y ≡ j x
+  along-first x y e = rw (eq-eqb (r y) 0 e)
+
+  pub along-later : (x y : ℕ) → 1 ≤ r y → along x y ≡ k x
+  along-later x y l = rw (ne-eqb (r y) 0 (omega arith))
+
+  module _ (ok : FlowOk (p .sx) (p .sy) f) where
+    dx-below : dx < sx
+    dx-below = offset-below sx (f .xs) (f .xd) (ok .xs-on) (ok .xd-on)
+
+    first-row : r (f .ys) ≡ 0
+    first-row = offset-same (p .sy) (f .ys) (ok .ys-on)
+
+    along-most : (x y : ℕ) → x < sx → along x y ≤ sx
+    along-most x y l =
+        elim (ℕ-discrete (r y) 0) [
+          | yes e ↦ rw (eq-eqb (r y) 0 e) (omega (arith, offset-below sx (f .xs) x (ok .xs-on) l))
+          | no e ↦ rw (ne-eqb (r y) 0 e) (lap-most sx (f .xd) x (ok .xd-on) l)
+        ]
+
+    -- a placed packet isn't past its row
+    pub progress-row : (c D e : ℕ) (at : Place) → Sound c D (placed e at) → progress (placed e at) ≤ r (rowOf at) * suc sx + sx
+    progress-row c D e (N x y) h = omega arith
+    progress-row c D e (W x y) (inl h) = omega (arith, along-most x y (h .column))
+    progress-row c D e (W x y) (inr h) = omega (arith, along-most x y (h .column))
+
+    -- S leads to the exit, or one row on
+    pub south : (c D e x y : ℕ) → GoesSouth c D e x y → Leads c D (r y * suc sx + sx) (sent p f c e x y South)
+    unfolding sent
+    south c D e x y g =
+        elim (ℕ-discrete y (f .yd)) [
+          | yes at ↦
+              let whole : r y ≡ dy = ap r at in
+              rw (eq-eqb x (f .xd) (g .column), eq-eqb y (f .yd) at)
+              (record {
+                sound = record { column = g .column; row = at; few = omega (arith, g .few); time = omega (arith, g .time); past = omega arith };
+                rises = rw whole (omega arith);
+              })
+          | no other ↦
+              let short : r y < dy = offset-short (p .sy) (f .ys) y (f .yd) (ok .ys-on) (g .row) (ok .yd-on) (g .most) other in
+              let on : r (next (p .sy) y) ≡ r y + 1 = offset-on (p .sy) (f .ys) y (f .yd) (ok .ys-on) (g .row) (ok .yd-on) short in
+              rw (eq-eqb x (f .xd) (g .column), ne-eqb y (f .yd) other)
+              (record {
+                sound = record {
+                  column = g .column;
+                  row = next-below (p .sy) y (g .row);
+                  least = omega arith;
+                  most = omega arith;
+                  few = omega (arith, g .few);
+                  time = omega (arith, g .time);
+                };
+                rises = rw on (omega arith);
+              })
+        ]
+
+    -- E leads one column on, in the source's row
+    east-first : (c e x y : ℕ) → x < sx → y ≡ f .ys → j x < dx → c ≡ e + j x → Leads c 0 (j x) (sent p f c e x y East)
+    unfolding sent
+    east-first c e x y l row short time =
+        let on : j (next sx x) ≡ j x + 1 = offset-on sx (f .xs) x (f .xd) (ok .xs-on) l (ok .xd-on) short in
+        record {
+          sound = inl (record { column = next-below sx x l; row = row; least = omega arith; most = omega arith; none = refl; time = omega arith });
+          rises = omega (arith, along-first (next sx x) y (ap r row ∙ first-row));
+        }
+
+    -- and in a later row
+    east-later : (c D e x y n : ℕ) → x < sx → y < p .sy → 1 ≤ r y → r y ≤ dy → 1 ≤ D → D ≤ r y
+        → c + 1 + sx ≡ e + (dx + r y + D * sx + k (next sx x)) → n < r y * suc sx + k (next sx x) → Leads c D n (sent p f c e x y East)
+    unfolding sent
+    east-later c D e x y n l m least most some few time more =
+        record {
+          sound = inr (record { column = next-below sx x l; row = m; least = least; most = most; some = some; few = few; time = time });
+          rises = rw (along-later (next sx x) y least) more;
+        }
+
+    -- who goes S: an N packet, and a W packet in its column
+    pub placed-south : (c D e : ℕ) (at : Place) → Sound c D (placed e at) → columnOf at ≡ f .xd → GoesSouth c D e (columnOf at) (rowOf at)
+    placed-south c D e (N x y) s turn =
+        record { column = turn; row = s .row; most = s .most; few = omega (arith, s .few); time = s .time }
+    placed-south c D e (W x y) (inl s) turn =
+        let none : r y ≡ 0 = ap r (s .row) ∙ first-row in
+        let whole : j x ≡ dx = ap j turn in
+        let bare : D * sx ≡ 0 * sx = ap (λ (d : ℕ). d * sx) (s .none) in
+        record { column = turn; row = rw (s .row) (ok .ys-on); most = omega arith; few = omega (arith, s .none); time = omega (arith, s .time) }
+    placed-south c D e (W x y) (inr s) turn =
+        let round : k x ≡ sx = ap k turn ∙ lap-whole sx (f .xd) (ok .xd-on) in
+        record { column = turn; row = s .row; most = s .most; few = s .few; time = omega (arith, s .time) }
+
+    -- a placed packet's step, by rules 1 and 2
+    pub step-placed : (b : Book) (c D e : ℕ) (at : Place) → Sound c D (placed e at)
+        → Leads c (D + one (deflects p b at)) (progress (placed e at)) (sent p f c e (columnOf at) (rowOf at) (output p b f at))
+    step-placed b c D e (N x y) s =
+        elim (test (westTurns p b x y)) [
+          | inl turn ↦
+              let round : k (next sx x) ≡ 1 = ap (λ (z : ℕ). k (next sx z)) (s .column) ∙ lap-first sx (f .xd) (ok .xd-on) in
+              rw turn
+              (east-later c (D + 1) e x y (r y * suc sx) (rw (s .column) (ok .xd-on)) (s .row) (s .least) (s .most)
+              (omega arith) (omega (arith, s .few)) (omega (arith, s .time)) (omega arith))
+          | inr turn ↦ rw turn (leads-more (omega arith) (south c D e x y (placed-south c D e (N x y) s (s .column))))
+        ]
+    step-placed b c D e (W x y) (inl s) =
+        let none : r y ≡ 0 = ap r (s .row) ∙ first-row in
+        let rows : r y * suc sx ≡ 0 * suc sx = ap (λ (n : ℕ). n * suc sx) none in
+        let come = along-first x y none in
+        elim (ℕ-discrete x (f .xd)) [
+          | yes turn ↦ rw (eq-eqb x (f .xd) turn) (leads-more (omega (arith, s .most, dx-below)) (south c D e x y (placed-south c D e (W x y) (inl s) turn)))
+          | no other ↦
+              let short = offset-short sx (f .xs) x (f .xd) (ok .xs-on) (s .column) (ok .xd-on) (s .most) other in
+              rw (ne-eqb x (f .xd) other, s .none) (leads-more (omega arith) (east-first c e x y (s .column) (s .row) short (s .time)))
+        ]
+    step-placed b c D e (W x y) (inr s) =
+        let come = along-later x y (s .least) in
+        elim (ℕ-discrete x (f .xd)) [
+          | yes turn ↦
+              let most = lap-most sx (f .xd) x (ok .xd-on) (s .column) in
+              rw (eq-eqb x (f .xd) turn) (leads-more (omega arith) (south c D e x y (placed-south c D e (W x y) (inr s) turn)))
+          | no other ↦
+              let on = lap-next sx (f .xd) x (ok .xd-on) (s .column) other in
+              rw (ne-eqb x (f .xd) other)
+              (leads-more (omega arith)
+              (east-later c D e x y (r y * suc sx + k x) (s .column) (s .row) (s .least) (s .most) (s .some) (s .few) (omega (arith, s .time)) (omega arith)))
+        ]
+
+    -- an entry, by rule 3: in cycle c, at the source, by the flow's port
+    pub step-entry : (c : ℕ) → Leads c 0 0 (sent p f c c (f .xs) (f .ys) (portOf sx f))
+    step-entry c =
+        let none : j (f .xs) ≡ 0 = offset-same sx (f .xs) (ok .xs-on) in
+        elim (decLt 0 dx) [
+          | yes far ↦ rw (lt-ltb 0 dx far) (leads-more (omega arith) (east-first c c (f .xs) (f .ys) (ok .xs-on) refl (omega arith) (omega arith)))
+          | no near ↦
+              let own : dx ≡ 0 = omega arith in
+              let top = first-row in
+              let at : f .xs ≡ f .xd = offset-zero sx (f .xs) (f .xd) (ok .xs-on) (ok .xd-on) own in
+              rw (le-ltb 0 dx (omega arith))
+              (leads-more (omega arith)
+              (south c 0 c (f .xs) (f .ys) (record { column = at; row = ok .ys-on; most = omega arith; few = omega arith; time = omega arith })))
+        ]
+
+    -- a place is a register of the torus
+    pub placed-on : (c D e : ℕ) (at : Place) → Sound c D (placed e at) → (columnOf at < sx) × (rowOf at < p .sy)
+    placed-on c D e (N x y) h = (rw (h .column) (ok .xd-on), h .row)
+    placed-on c D e (W x y) (inl h) = (h .column, rw (h .row) (ok .ys-on))
+    placed-on c D e (W x y) (inr h) = (h .column, h .row)
+
+    -- an entry was in an earlier cycle
+    pub entered-before : (c D : ℕ) (s : Stage) → Sound c D s → isWaiting s ≡ false → entryOf s < c
+    entered-before c D waiting h e = absurd (false≢true (sym e))
+    entered-before c D (placed e (N x y)) h n = omega (arith, h .time, h .least)
+    entered-before c D (placed e (W x y)) (inl h) n = omega (arith, h .time, h .least)
+    entered-before c D (placed e (W x y)) (inr h) n = omega (arith, h .time, h .least, mul-le-mul-right sx (h .some))
+    entered-before c D (left e t x y) h n = omega (arith, h .time, h .past)

@@ -1,0 +1,147 @@
+-- The promises of the packet book, for every accepted plan and every list of calls from its start. Rests on Kept and State.
+use mathlib.Core.Bool.{Bool, true, false, _&&_}
+use mathlib.Core.List.{List, List·Memᴰ as Mem}
+use mathlib.Core.Path.{_≡_, refl}
+use Prim.Native.Nat.{ℕ, suc, _+_, _-_, _≤_, _<_}
+use native.Mathlib.Omega.{arith}
+use borrow.Author.Tests.{eq-eqb}
+use lib.Dec.{eqb}
+use lib.ListN.{length}
+use Rattle.laws.specs.Count.{count}
+use Rattle.laws.proofs.Cases.{and-true}
+use Rattle.laws.proofs.Count.{mem-count, count-find, count-mono}
+use Rattle.flow.specs.Plan.{Plan, flowAt, FlowOk, PlanOk}
+use Rattle.bucket.proofs.Regulator.{fits}
+use Rattle.window.specs.declared.Found.the-variants.{At}
+use Rattle.window.specs.Window.{interference, windowOf}
+use Rattle.window.proofs.Window.{window-least}
+use Rattle.book.specs.Line.{Stage, waiting, placed, left, Line, isWaiting, isLeft, entryOf}
+use Rattle.book.specs.Book.{Book, bucketAt, ofFlow, enteredOf}
+use Rattle.book.specs.Cycle.{Delivery, deliveryOf}
+use Rattle.book.specs.Calls.{Call, run}
+use Rattle.book.specs.Promises.{deadline, EntersBy, sameWords, delivers, InState, FlowInState, Promises}
+use Rattle.book.proofs.Path.{Sound, entered-before}
+use Rattle.book.proofs.Entries.{lowest-enters}
+use Rattle.book.proofs.Queue.{entered-within, serial-range, serial-once}
+use Rattle.book.proofs.Traced.{line-ok}
+use Rattle.book.proofs.Spans.{Lawful}
+use Rattle.book.proofs.Outputs.{one-output}
+use Rattle.book.proofs.Pace.{Pace, waiting-due}
+use Rattle.book.proofs.Deliveries.{gone}
+use Rattle.book.proofs.Kept.{Kept, kept-run, delivered-run}
+use Rattle.book.proofs.State.{sound-in-place, sound-flies, sound-deflections}
+
+module _ (p : Plan) (b : Book) (k : Kept p b) where
+  abbrev law : Lawful p b
+  law = k .lawful
+
+  enters-in-time : (l : Line) → Mem l (b .lines) → (T : ℕ) → windowOf p (l .flow) ≡ At T → EntersBy (deadline p l T) (b .clock) (l .stage)
+  enters-in-time l m T e =
+      by-stage (l .stage)
+      (λ w. omega (arith, waiting-due p (l .flow) known T H sum free b law pace l m refl w))
+      (λ w. omega (arith, pace .timely l m refl w))
+    where
+      known : l .flow < length (p .flows)
+      known = law .traced .known l m
+
+      H : ℕ
+      H = (flowAt p (l .flow)) .period + T - 1
+
+      free : interference p (l .flow) T < T
+      free = window-least p (l .flow) T e .free
+
+      sum : suc H ≡ (flowAt p (l .flow)) .period + T
+      sum = omega (arith, window-least p (l .flow) T e .from)
+
+      pace : Pace p b (l .flow) T H
+      pace = k .pace (l .flow) known T H sum free
+
+      by-stage : (s : Stage) → (isWaiting s ≡ true → b .clock ≤ deadline p l T) → (isWaiting s ≡ false → entryOf s ≤ deadline p l T)
+          → EntersBy (deadline p l T) (b .clock) s
+      by-stage waiting w d = w refl
+      by-stage (placed e at) w d = d refl
+      by-stage (left e t x y) w d = d refl
+
+  pub in-state : (l : Line) → Mem l (b .lines) → InState p b l (l .stage)
+  in-state l m = by-stage (l .stage) (law .traced .sound l m) (entered-within b (law .queued) l m)
+    where
+      okl : FlowOk (p .sx) (p .sy) (flowAt p (l .flow))
+      okl = line-ok p (law .plan) b (law .traced) l m
+
+      by-stage : (s : Stage) → Sound p (flowAt p (l .flow)) (b .clock) (l .D) s → (isWaiting s ≡ false → l .serial ≤ enteredOf b (l .flow))
+          → InState p b l s
+      by-stage waiting h w = tt
+      by-stage (placed e at) h w = (
+        serial-range b (law .queued) l m .0,
+        w refl,
+        entered-before p _ okl (b .clock) (l .D) (placed e at) h refl,
+        sound-in-place p _ okl (b .clock) (l .D) e at h,
+      )
+      by-stage (left e t x y) h w = tt
+
+  pub flow-in-state : (f : ℕ) → f < length (p .flows) → FlowInState p b f
+  flow-in-state f l =
+      record { bucket-fits = fits _ _ (bucketAt b f) (b .clock) _ (law .regulated f l); waiting-most = k .waiting-most f; entered-most = k .entered-most f }
+
+  -- what has left was delivered, and the other way round, whatever is asked of a delivery
+  module _ (ds : List Delivery) (told : (r : Delivery → Bool) → count (gone r) (b .lines) ≡ count r ds) where
+    same-refl : (d : Delivery) → sameWords d d ≡ true
+    same-refl d =
+        rw (own (d .flow), own (d .serial), own (d .entry), own (d .exit), own (d .D))
+      where
+        own : (n : ℕ) → eqb n n ≡ true
+        own n = eq-eqb n n refl
+
+    once : (l : Line) → Mem l (b .lines) → isLeft (l .stage) ≡ true → count (delivers l) ds ≡ 1
+    once l m has-exit =
+        let range = serial-range b (law .queued) l m in
+        omega (
+          arith,
+          told (delivers l),
+          mem-count (gone (delivers l)) (b .lines) m (rw has-exit (same-refl (deliveryOf l))),
+          count-mono (gone (delivers l)) own (b .lines) (λ h n t. same h t),
+          serial-once b (law .queued) (l .flow) (l .serial) (range .0) (range .1),
+        )
+      where
+        own : Line → Bool
+        own h = ofFlow (l .flow) h && eqb (h .serial) (l .serial)
+
+        two : (s t u v w : Bool) → s && t && u && v && w ≡ true → s && t ≡ true
+        two s t u v w e = and-true (s && t) u (and-true (s && t && u) v (and-true (s && t && u && v) w e .0) .0) .0
+
+        same : (h : Line) → gone (delivers l) h ≡ true → own h ≡ true
+        same h t =
+            let d : Delivery = deliveryOf h in
+            let e : Delivery = deliveryOf l in
+            two (eqb (d .flow) (e .flow)) (eqb (d .serial) (e .serial)) (eqb (d .entry) (e .entry)) (eqb (d .exit) (e .exit)) (eqb (d .D) (e .D))
+            (and-true (isLeft (h .stage)) (delivers l (deliveryOf h)) t .1)
+
+    only : (d : Delivery) → Mem d ds → (l : Line) × Mem l (b .lines) × (isLeft (l .stage) ≡ true) × (delivers l d ≡ true)
+    only d m =
+        let some : 1 ≤ count (gone (sameWords d)) (b .lines) = rw (told (sameWords d)) (mem-count (sameWords d) ds m (same-refl d)) in
+        let l = count-find (gone (sameWords d)) (b .lines) some in
+        let h = and-true _ _ (l .2) in
+        (l .0, l .1, h .0, h .1)
+
+    kept-promises : Promises p b ds
+    kept-promises =
+        record {
+          enters-by = enters-in-time;
+          deflections-most = λ l m. sound-deflections p _ (line-ok p (law .plan) b (law .traced) l m) (b .clock) (l .D) (l .stage) (law .traced .sound l m);
+          flies = λ l m. sound-flies p _ (line-ok p (law .plan) b (law .traced) l m) (b .clock) (l .D) (l .stage) (law .traced .sound l m);
+          delivered-once = once;
+          delivered-only = only;
+          apart = k .apart;
+          one-output = λ x y o. one-output p b x y (k .apart) (law .queued) o;
+          lowest-enters = lowest-enters p b;
+          known = law .traced .known;
+          numbered = law .queued .numbered;
+          entered-first = law .queued .entered-first;
+          clock-most = k .clock-most;
+          flow-in-state = flow-in-state;
+          in-state = in-state;
+        }
+
+-- the packet book keeps its promises
+pub promises : (p : Plan) → PlanOk p → (calls : List Call) → Promises p (run p calls .book) (run p calls .delivered)
+promises p ok calls = kept-promises p (run p calls .book) (kept-run p ok calls) (run p calls .delivered) (λ r. delivered-run p ok r calls)

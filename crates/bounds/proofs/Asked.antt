@@ -1,0 +1,60 @@
+-- Laws of a call on a flow of a plan file: a refusal is every call's refusal, and without one the call answers its own value.
+use mathlib.Core.Bool.{Bool, true, false, cond}
+use mathlib.Core.List.{List}
+use mathlib.Core.Logic.{inl, inr}
+use mathlib.Core.Path.{_≡_, refl}
+use Prim.Native.Nat.{ℕ, _<_}
+use native.Mathlib.Omega.{arith}
+use borrow.Author.Tests.{ltb-true}
+use lib.Dec.{ltb}
+use lib.ListN.{length}
+use Rattle.laws.proofs.Cases.{test}
+use Rattle.plan.specs.declared.Answer.{Answer}
+use Rattle.plan.specs.declared.Answer.the-variants.{Done, Refused}
+use Rattle.plan.specs.declared.Trailer.{Trailer}
+use Rattle.plan.specs.Layout.{trailerOf, planOf}
+use Rattle.plan.specs.Refusals.{orElse, planAnswer}
+use Rattle.bounds.specs.Calls.{Accepted, Opened, asked}
+use Rattle.bounds.proofs.Opened.{opened-count}
+
+-- the refusal of a plan or of a flow number does not depend on what would be answered
+refused-first : (plan : Answer) (b : Bool) (n place : ℕ) (a : Answer)
+    → orElse plan (cond b (Done 0) (Refused 12 0)) ≡ Refused n place → orElse plan (cond b a (Refused 12 0)) ≡ Refused n place
+refused-first (Refused m q) b n place a e = e
+refused-first (Done v) false n place a e = e
+refused-first (Done v) true n place a e =
+    let never : _≡_ {A = ℕ} 0 1 = cc in
+    absurd (omega arith)
+
+pub asked-refused : (file : List ℕ) (f n place : ℕ) (a : Answer) → asked file f (Done 0) ≡ Refused n place → asked file f a ≡ Refused n place
+unfolding asked
+asked-refused file f n place a e = refused-first (planAnswer file) (ltb f (length (planOf file .flows))) n place a e
+
+-- a flow of an accepted file
+pub record Known (file : List ℕ) (f : ℕ) : Type 0 where
+  pub accepted : Accepted file
+  pub below : f < length (planOf file .flows)
+  pub answers : (a : Answer) → asked file f a ≡ a
+
+pub asked-done : (file : List ℕ) (f v : ℕ) → asked file f (Done 0) ≡ Done v → Known file f
+unfolding asked
+asked-done file f v e = go (planAnswer file) refl e
+  where
+    go : (plan : Answer) → planAnswer file ≡ plan → orElse plan (cond (ltb f (length (planOf file .flows))) (Done 0) (Refused 12 0)) ≡ Done v → Known file f
+    go (Refused n place) p q =
+        let never : _≡_ {A = ℕ} 0 1 = cc in
+        absurd (omega arith)
+    go (Done w) p q =
+        elim (test (ltb f (length (planOf file .flows)))) [
+          | inl below ↦ record { accepted = record { value = w; done = p }; below = ltb-true _ _ below; answers = λ a. rw (p, below) }
+          | inr above ↦
+              let refused : Refused 12 0 ≡ Done v = rw above at q in
+              let never : _≡_ {A = ℕ} 0 1 = cc in
+              absurd (omega arith)
+        ]
+
+-- with the trailer that was read
+pub known-opened : (file : List ℕ) (f : ℕ) (t : Trailer) → Known file f → t ≡ trailerOf file → Opened file t × (f < t .count)
+known-opened file f t k e =
+    let o : Opened file t = record { accepted = k .accepted; trailer = e } in
+    (o, rw (opened-count file t o) at (k .below))

@@ -1,0 +1,4 @@
+-- The laws of the calls on a plan file.
+pub mod Opened
+pub mod Asked
+pub mod Numbers

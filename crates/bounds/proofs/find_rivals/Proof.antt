@@ -1,0 +1,44 @@
+-- `find_rivals`: flow by flow, from none.
+use mathlib.Core.Path.{_≡_, _∙_}
+use Prim.Native.Nat.{_-_, _≤_}
+use native.Mathlib.Omega.{arith}
+use lib.ListN.{length}
+use Rattle.plan.specs.Layout.{planOf}
+use Rattle.window.specs.Rivals.{RivalsAmong}
+use Rattle.window.proofs.Gathered.{among-none}
+use Rattle.bounds.proofs.find_rivals.Statement.{statement}
+use Rattle.bounds.proofs.find_rivals.Tie as tie
+
+abbrev Inv-loop : tie.InvT-loop
+Inv-loop file t f rivals₀ own count n₀ g₀ rivals n g =
+    (g ≤ count) × ((length rivals ≡ length rivals₀) × RivalsAmong (planOf file) f g rivals n)
+
+abbrev μ-loop : tie.MeasureT-loop
+μ-loop file t f rivals₀ own count n₀ g₀ rivals n g = count - g
+
+flow-of-requires : tie.Need-flow-of-requires Inv-loop μ-loop
+flow-of-requires c κs = let p = c .before .before .pre in (p .0, p .1 .0)
+
+loop-holds : tie.Need-loop-holds Inv-loop μ-loop
+loop-holds c = (omega arith, (omega arith, among-none _ _ _ (c .before .before .before .pre .1 .1)))
+
+meet-requires : tie.Need-meet-requires Inv-loop μ-loop
+meet-requires c κs =
+    let p = c .before .before .before .before .before .before .pre in
+    ((p .0, (p .1 .0, c .before .loop-test .taken)), (c .before .before .before .flow-of .ensures, c .before .before .loop .inv .1 .1))
+
+loop-again : tie.Need-loop-again Inv-loop μ-loop
+loop-again c =
+    (omega arith, (c .before .before .meet .kept .1 .1 .1 .1 .1 .0 ∙ c .before .before .before .before .before .loop .inv .1 .0, c .before .before .meet .ensures))
+
+same-length : tie.Need-same-length Inv-loop μ-loop
+same-length c = c .before .loop .inv .1 .0
+
+returns : tie.Need-returns Inv-loop μ-loop
+returns c =
+    let e : c .before .loop .g ≡ c .before .before .before .before .before .args .t .count = omega arith in
+    rw e at (c .before .loop .inv .1 .1)
+
+pub find-rivals-spec : {M : Type 1} → statement M
+find-rivals-spec =
+    tie.close (tie.spec Inv-loop μ-loop flow-of-requires loop-holds meet-requires (λ c. omega arith) (λ c. omega arith) loop-again same-length returns)

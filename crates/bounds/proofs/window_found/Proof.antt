@@ -1,0 +1,16 @@
+-- `window_found`: the rivals found make I(t), so their least window is T.
+use borrow.Author.Needs.{needs}
+use mathlib.Core.Path.{_∙_}
+use Rattle.window.proofs.Gathered.{among-all}
+use Rattle.bounds.proofs.Opened.{opened-count}
+use Rattle.bounds.proofs.window_found.Statement.{statement}
+use Rattle.bounds.proofs.window_found.Tie as tie
+
+returns : tie.Need-returns
+returns c =
+    let p = c .before .before .before .before .before .before .pre in
+    c .least-window .ensures ∙ among-all _ _ _ _ (rw (opened-count _ _ (p .0)) (c .before .before .before .find-rivals .ensures))
+
+pub window-found-spec : {M : Type 1} → statement M
+window-found-spec =
+    tie.close (tie.spec (λ c. search needs) (λ c κs. search needs) (λ c. search needs) (λ c κs. search needs) returns)

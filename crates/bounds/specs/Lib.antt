@@ -1,0 +1,2 @@
+-- The calls that answer bounds from a plan file, in 01's words.
+pub mod Calls

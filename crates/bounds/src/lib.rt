@@ -1,0 +1,114 @@
+// Bounds from a plan file: the window and the flight bound of a flow. Rests on plan and window.
+use flow::Flow;
+use plan::Answer;
+use plan::Trailer;
+use window::Found;
+ghost use mathlib.Core.Path.{_≡_};
+ghost use Prim.Native.Nat.{_+_, _*_, _<_, _≤_};
+ghost use lib.ListN.{length};
+ghost use Rattle.flow.specs.Plan.{flowAt};
+ghost use Rattle.plan.specs.declared.Answer.the-variants.{Done};
+ghost use Rattle.plan.specs.Layout.{planOf};
+ghost use Rattle.window.specs.Window.{windowOf};
+ghost use Rattle.window.specs.Rivals.{mostRivalWords, RivalsAmong};
+ghost use Rattle.bounds.specs.Calls.{Opened, asked, windowAnswer, flightAnswer, flightOfPlan};
+
+// Flow number f of an accepted file.
+pub fn flow_of(file: &[u8], t: Trailer, f: u32) -> Flow
+    requires { ⌜ (Opened (now file) t) × (f < t .count) ⌝ }
+    ensures { λ r. ⌜ r ≡ flowAt (planOf (now (file .entry))) f ⌝ }
+{
+    plan::flow_at(file, (t.start as usize) + plan::RECORD_SIZE * (f as usize))
+}
+
+// Flow g, after the n rivals of flow f among the flows before it.
+fn meet(file: &[u8], t: Trailer, own: Flow, f: u32, g: u32, rivals: &mut [u32], n: usize) -> usize
+    requires { ⌜ (Opened (now file) t) × ((f < t .count) × (g < t .count)) ⌝ }
+    requires { ⌜ own ≡ flowAt (planOf (now file)) f ⌝ }
+    requires { ⌜ RivalsAmong (planOf (now file)) f g (now rivals) n ⌝ }
+    ensures { λ r. ⌜ RivalsAmong (planOf (now (file .entry))) f (g + 1) (now (rivals .exit)) r ⌝ }
+{
+    if g == f {
+        return n;
+    }
+    let other = flow_of(file, t, g);
+    let c = window::conflict_of(t.sx, t.sy, own, other);
+    window::keep_rival(rivals, n, other, c)
+}
+
+// The rivals of flow f, found once; they are as many as is answered.
+fn find_rivals(file: &[u8], t: Trailer, f: u32, rivals: &mut [u32]) -> usize
+    requires { ⌜ (Opened (now file) t) × ((f < t .count) × (mostRivalWords ≤ length (now rivals))) ⌝ }
+    ensures { λ r. ⌜ RivalsAmong (planOf (now (file .entry))) f (t .count) (now (rivals .exit)) r ⌝ }
+{
+    let own = flow_of(file, t, f);
+    let count = t.count;
+    let mut n = 0usize;
+    for g in 0..count {
+        n = meet(file, t, own, f, g, rivals, n);
+    }
+    n
+}
+
+// The window T of flow f of an accepted file.
+pub fn window_found(file: &[u8], t: Trailer, f: u32) -> Found
+    requires { ⌜ (Opened (now file) t) × (f < t .count) ⌝ }
+    ensures { λ r. ⌜ r ≡ windowOf (planOf (now (file .entry))) f ⌝ }
+{
+    let mut rivals = [0u32; window::MOST_RIVAL_WORDS];
+    let n = find_rivals(file, t, f, &mut rivals);
+    window::least_window(&rivals, n)
+}
+
+// The flight bound of flow f of an accepted file.
+pub fn flight_found(file: &[u8], t: Trailer, f: u32) -> u32
+    requires { ⌜ (Opened (now file) t) × (f < t .count) ⌝ }
+    ensures { λ r. ⌜ r ≡ flightOfPlan (planOf (now (file .entry))) f ⌝ }
+{
+    window::flight_bound(t.sx, t.sy, flow_of(file, t, f))
+}
+
+// 0 for a flow of an accepted file, or the refusal.
+fn ask(file: &[u8], f: u32) -> Answer
+    ensures { λ r. ⌜ r ≡ asked (now (file .entry)) f (Done 0) ⌝ }
+{
+    match plan::answer_of(file) {
+        Answer::Refused { number, place } => Answer::Refused { number, place },
+        Answer::Done(_) => {
+            let count = plan::read_trailer(file).count;
+            if count <= f {
+                return Answer::Refused {
+                    number: 12,
+                    place: 0,
+                };
+            }
+            Answer::Done(0)
+        }
+    }
+}
+
+// The window call: T, or a refusal.
+pub fn window(file: &[u8], f: u32) -> Answer
+    ensures { λ r. ⌜ r ≡ windowAnswer (now (file .entry)) f ⌝ }
+{
+    match ask(file, f) {
+        Answer::Refused { number, place } => Answer::Refused { number, place },
+        Answer::Done(_) => match window_found(file, plan::read_trailer(file), f) {
+            Found::At(least) => Answer::Done(least),
+            Found::Nothing => Answer::Refused {
+                number: 14,
+                place: f,
+            },
+        },
+    }
+}
+
+// The flight call: the flight bound, or a refusal.
+pub fn flight(file: &[u8], f: u32) -> Answer
+    ensures { λ r. ⌜ r ≡ flightAnswer (now (file .entry)) f ⌝ }
+{
+    match ask(file, f) {
+        Answer::Refused { number, place } => Answer::Refused { number, place },
+        Answer::Done(_) => Answer::Done(flight_found(file, plan::read_trailer(file), f)),
+    }
+}

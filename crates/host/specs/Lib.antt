@@ -1,0 +1,2 @@
+-- The numbers that the C interface answers.
+pub mod Words

@@ -1,0 +1,47 @@
+-- An answer as one number for C (01, When a call says no, at the end).
+use mathlib.Core.List.{List}
+use Prim.Native.Nat.{ℕ, _+_, _*_}
+use lib.ListN.{length}
+use Rattle.plan.specs.declared.Answer.{Answer}
+use Rattle.plan.specs.declared.Answer.the-variants.{Done, Refused}
+use Rattle.plan.specs.Refusals.{orElse, planAnswer}
+use Rattle.plan.specs.Notes.{notesOf}
+use Rattle.state.specs.Outcome.{Outcome}
+use Rattle.cycle.specs.Calls.{StepOutcome}
+
+-- T, or 65,536 + the refusal number
+abbrev pub windowWord : Answer → ℕ
+windowWord (Done v) = v
+windowWord (Refused number place) = 65536 + number
+
+-- every other call: the value, or number × 2^32 + place
+abbrev pub answerWord : Answer → ℕ
+answerWord (Done v) = v
+answerWord (Refused number place) = number * 4294967296 + place
+
+-- reading: the length of the notes, which lead the file
+unfoldable pub notesAnswer : List ℕ → Answer
+notesAnswer file = orElse (planAnswer file) (Done (length (notesOf file)))
+
+-- a call's number and the memory lent to it, afterwards
+pub record Said : Type 0 where
+  pub word : ℕ
+  pub memory : List ℕ
+
+abbrev pub said : ℕ → List ℕ → Said
+said word memory = record { word = word; memory = memory }
+
+abbrev pub saidOf : Outcome → Said
+saidOf o = said (answerWord (o .answer)) (o .memory)
+
+-- a step's number, and the state and delivery memory afterwards
+pub record SaidStep : Type 0 where
+  pub word : ℕ
+  pub memory : List ℕ
+  pub delivery : List ℕ
+
+abbrev pub saidStep : ℕ → (memory delivery : List ℕ) → SaidStep
+saidStep word memory delivery = record { word = word; memory = memory; delivery = delivery }
+
+abbrev pub saidOfStep : StepOutcome → SaidStep
+saidOfStep o = saidStep (answerWord (o .answer)) (o .memory) (o .delivery)

@@ -1,0 +1,87 @@
+// The C interface, declared in include/hrt.h: thin, over the calls of plan, bounds, reset, writing and cycle.
+use plan::Answer;
+ghost use mathlib.Core.Path.{_≡_};
+ghost use Rattle.bounds.specs.Calls.{windowAnswer, flightAnswer, NumberMost};
+ghost use Rattle.host.specs.Words.{windowWord, answerWord, notesAnswer, said, saidOf, saidStep, saidOfStep};
+ghost use Rattle.state.specs.Calls.{resetOn, writeOn};
+ghost use Rattle.cycle.specs.Calls.{offerOn, stepOn};
+
+// The window call's answer as a number.
+fn window_word(a: Answer) -> u32
+    requires { ⌜ NumberMost 14 a ⌝ }
+    ensures { λ r. ⌜ r ≡ windowWord a ⌝ }
+{
+    match a {
+        Answer::Done(v) => v,
+        Answer::Refused { number, place: _ } => 65536 + number,
+    }
+}
+
+// Any other call's answer as a number.
+fn answer_word(a: Answer) -> u64
+    ensures { λ r. ⌜ r ≡ answerWord a ⌝ }
+{
+    match a {
+        Answer::Done(v) => v as u64,
+        Answer::Refused { number, place } => (number as u64) * 4294967296 + (place as u64),
+    }
+}
+
+// T of a flow, or 65,536 + the refusal number.
+#[no_mangle]
+pub extern "C" fn hrt_window(plan: &[u8], flow: u32) -> u32
+    ensures { λ r. ⌜ r ≡ windowWord (windowAnswer (now (plan .entry)) flow) ⌝ }
+{
+    window_word(bounds::window(plan, flow))
+}
+
+// The flight bound of a flow.
+#[no_mangle]
+pub extern "C" fn hrt_flight(plan: &[u8], flow: u32) -> u64
+    ensures { λ r. ⌜ r ≡ answerWord (flightAnswer (now (plan .entry)) flow) ⌝ }
+{
+    answer_word(bounds::flight(plan, flow))
+}
+
+// The length of the notes, the leading part of the file.
+#[no_mangle]
+pub extern "C" fn hrt_notes(plan: &[u8]) -> u64
+    ensures { λ r. ⌜ r ≡ answerWord (notesAnswer (now (plan .entry))) ⌝ }
+{
+    match plan::answer_of(plan) {
+        Answer::Refused { number, place } => answer_word(Answer::Refused { number, place }),
+        Answer::Done(_) => plan::notes(plan).len() as u64,
+    }
+}
+
+// A state from a plan file.
+#[no_mangle]
+pub extern "C" fn hrt_reset(plan: &[u8], state: &mut [u32]) -> u64
+    ensures { λ r. ⌜ said r (now (state .exit)) ≡ saidOf (resetOn (now (plan .entry)) (now (state .entry))) ⌝ }
+{
+    answer_word(reset::reset(plan, state))
+}
+
+// The plan file of a state with lent notes.
+#[no_mangle]
+pub extern "C" fn hrt_write(state: &[u32], notes: &[u8], target: &mut [u8]) -> u64
+    ensures { λ r. ⌜ said r (now (target .exit)) ≡ saidOf (writeOn (now (state .entry)) (now (notes .entry)) (now (target .entry))) ⌝ }
+{
+    answer_word(writing::write(state, notes, target))
+}
+
+// One packet of a flow.
+#[no_mangle]
+pub extern "C" fn hrt_offer(state: &mut [u32], flow: u32) -> u64
+    ensures { λ r. ⌜ said r (now (state .exit)) ≡ saidOf (offerOn (now (state .entry)) flow) ⌝ }
+{
+    answer_word(engine::offer(state, flow))
+}
+
+// One cycle, and its exits.
+#[no_mangle]
+pub extern "C" fn hrt_step(state: &mut [u32], delivery: &mut [u32]) -> u64
+    ensures { λ r. ⌜ saidStep r (now (state .exit)) (now (delivery .exit)) ≡ saidOfStep (stepOn (now (state .entry)) (now (delivery .entry))) ⌝ }
+{
+    answer_word(engine::step(state, delivery))
+}

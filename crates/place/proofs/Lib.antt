@@ -1,0 +1,2 @@
+-- The laws behind the conditions on a place.
+pub mod InPlace

@@ -1,0 +1,2 @@
+-- The inputs of a router.
+pub mod Input

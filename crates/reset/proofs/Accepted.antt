@@ -1,0 +1,100 @@
+-- What an accepted reset leaves: words that form a state, with the file's plan. Rests on the laws of a state's words.
+use mathlib.Core.Bool.{true}
+use mathlib.Core.List.{List}
+use mathlib.Core.Path.{_≡_, refl, ap}
+use Prim.Native.Nat.{ℕ, _≤_, _<_}
+use native.Mathlib.Decide.{decLe}
+use native.Mathlib.Omega.{arith}
+use borrow.Author.Tests.{lt-ltb, le-ltb, le-leb, eq-eqb}
+use lib.ListN.{length}
+use Rattle.laws.proofs.Bounded.{getD-tabulate}
+use Rattle.laws.proofs.Stands.{Stands, stands-first}
+use Rattle.laws.proofs.Grid.{getD-grid}
+use Rattle.flow.specs.Plan.{Plan, PlanOk, flowAt}
+use Rattle.plan.specs.declared.Answer.{Answer}
+use Rattle.plan.specs.declared.Answer.the-variants.{Done, Refused}
+use Rattle.plan.specs.Layout.{planOf}
+use Rattle.plan.specs.Refusals.{planAnswer}
+use Rattle.plan.proofs.Ranges.{Bytes, plan-ok}
+use Rattle.book.specs.Line.{W, N}
+use Rattle.state.specs.State.{tallyAt, cellAt, freshTally, emptyCell, resetState}
+use Rattle.state.specs.Words.{stateWords}
+use Rattle.state.specs.Read.{planIn}
+use Rattle.state.specs.Forms.{tallyFits, stateNumber}
+use Rattle.state.specs.Outcome.{Outcome, unlessRefused, over}
+use Rattle.state.specs.Calls.{planSize, resetOn}
+use Rattle.state.proofs.Read.{plan-read}
+use Rattle.state.proofs.Formed.{StateOk, registerOk, words-form}
+use Rattle.reset.specs.Fresh.{freshOn}
+
+module _ (p : Plan) (ok : PlanOk p) where
+  fresh-tally : (f : ℕ) → f < length (p .flows) → tallyAt (resetState p) f ≡ freshTally ((flowAt p f) .burst)
+  fresh-tally f h = getD-tabulate (length (p .flows)) (λ f. freshTally ((flowAt p f) .burst)) f (freshTally 0) h
+
+  empty-cell : (x y : ℕ) → x < p .sx → y < p .sy → cellAt (resetState p) x y ≡ emptyCell
+  empty-cell x y h k = getD-grid (p .sx) (p .sy) (λ x y. emptyCell) emptyCell x y h k
+
+  fresh-fits : (f : ℕ) → f < length (p .flows) → tallyFits 0 (flowAt p f) (freshTally ((flowAt p f) .burst)) ≡ true
+  unfolding tallyFits
+  fresh-fits f h =
+      let σ = (flowAt p f) .burst in
+      rw (le-leb σ σ (omega arith), lt-ltb 0 _ (ok .flow-ok f h .period-least), eq-eqb σ σ refl)
+
+  -- the numbers of a reset state fit
+  pub reset-ok : StateOk (resetState p)
+  reset-ok =
+      record {
+        plan-ok = ok;
+        tally-ok = λ f h. rw (fresh-tally f h) (fresh-fits f h);
+        west-ok = λ x y h k. ap (λ c. registerOk (resetState p) (W x y) (c .west)) (empty-cell x y h k);
+        north-ok = λ x y h k. ap (λ c. registerOk (resetState p) (N x y) (c .north)) (empty-cell x y h k);
+      }
+
+-- an accepted reset: the file was accepted, and the memory was long enough
+pub record Accepted (file memory : List ℕ) : Type 0 where
+  pub value : ℕ
+  pub file-done : planAnswer file ≡ Done value
+  pub long : planSize (planOf file) ≤ length memory
+
+never : (n place v : ℕ) → Refused n place ≡ Done v → ⊥
+never n place v e = let z : _≡_ {A = ℕ} 0 1 = cc in omega arith
+
+done-parts : (a : Answer) (memory : List ℕ) (o : Outcome) → (unlessRefused a memory o) .answer ≡ Done 0
+    → (v : ℕ) × (a ≡ Done v) × (o .answer ≡ Done 0)
+unfolding unlessRefused
+done-parts (Done v) memory o e = (v, refl, e)
+done-parts (Refused n place) memory o e = absurd (never n place 0 e)
+
+done-long : (p : Plan) (memory : List ℕ) → (freshOn p memory) .answer ≡ Done 0 → planSize p ≤ length memory
+done-long p memory e =
+    elim (decLe (planSize p) (length memory)) [
+      | yes h ↦ h
+      | no h ↦ absurd (never 8 0 0 (rw (lt-ltb (length memory) (planSize p) (omega arith)) at e))
+    ]
+
+pub accepted : (file memory : List ℕ) → (resetOn file memory) .answer ≡ Done 0 → Accepted file memory
+unfolding resetOn
+accepted file memory e =
+    let parts = done-parts (planAnswer file) memory (freshOn (planOf file) memory) e in
+    record { value = parts .0; file-done = parts .1; long = done-long (planOf file) memory (parts .2) }
+
+module _ (file memory : List ℕ) (bytes : Bytes file) (e : (resetOn file memory) .answer ≡ Done 0) where
+  -- the reset state's words, and the rest as lent
+  pub leaves : (resetOn file memory) .memory ≡ over (stateWords (resetState (planOf file))) memory
+  unfolding resetOn unlessRefused
+  leaves =
+      let a = accepted file memory e in
+      rw (a .file-done, le-ltb (length memory) (planSize (planOf file)) (a .long))
+
+  stands : Stands 0 ((resetOn file memory) .memory) 0 (stateWords (resetState (planOf file)))
+  stands = rw leaves (stands-first 0 (stateWords (resetState (planOf file))) _)
+
+  -- its words form a state
+  pub reset-forms : stateNumber ((resetOn file memory) .memory) ≡ 0
+  reset-forms =
+      let a = accepted file memory e in
+      words-form (resetState (planOf file)) (reset-ok (planOf file) (plan-ok file (a .value) (a .file-done) bytes)) _ stands
+
+  -- and have the file's plan
+  pub reset-plan : planIn ((resetOn file memory) .memory) ≡ planOf file
+  reset-plan = plan-read (resetState (planOf file)) _ stands

@@ -1,0 +1,2 @@
+-- Reset of an accepted file.
+pub mod Fresh

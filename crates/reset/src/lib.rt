@@ -1,0 +1,100 @@
+// Reset: from a plan file to a state. Rests on plan and state.
+use bucket::Bucket;
+use flow::Flow;
+use plan::Answer;
+use plan::Trailer;
+use state::Tally;
+ghost use mathlib.Core.List.{[], _∷_};
+ghost use mathlib.Core.Path.{_≡_};
+ghost use Prim.Native.Nat.{_+_, _*_, _≤_};
+ghost use lib.ListN.{length};
+ghost use lib.Seq.{sets};
+ghost use Rattle.laws.specs.Count.{joinBelow};
+ghost use Rattle.plan.specs.Layout.{recordSize, flowFrom, planOf};
+ghost use Rattle.plan.specs.Refusals.{trailerNumber};
+ghost use Rattle.state.specs.Layout.{headerSize, flowSize, routerSize, flowPlace};
+ghost use Rattle.state.specs.State.{emptyCell};
+ghost use Rattle.state.specs.Words.{cellWords};
+ghost use Rattle.state.specs.Outcome.{outcome};
+ghost use Rattle.state.specs.Calls.{resetOn};
+ghost use Rattle.reset.specs.Fresh.{freshWords, freshOn};
+
+// Writes Sx, Sy, F, clock 0 and the four zeros.
+fn put_header(w: &mut [u32], t: Trailer)
+    requires { ⌜ headerSize ≤ length (now w) ⌝ }
+    ensures { λ _. ⌜ now (w .exit) ≡ sets (now (w .entry)) 0 (t .sx ∷ t .sy ∷ t .count ∷ 0 ∷ 0 ∷ 0 ∷ 0 ∷ 0 ∷ []) ⌝ }
+{
+    state::put_four(w, 0, t.sx, t.sy, t.count, 0);
+    state::put_four(w, 4, 0, 0, 0, 0);
+}
+
+// Writes a flow with a full bucket, nothing entered and nothing waiting.
+fn put_flow(w: &mut [u32], at: usize, f: Flow)
+    requires { ⌜ at + flowSize ≤ length (now w) ⌝ }
+    ensures { λ _. ⌜ now (w .exit) ≡ sets (now (w .entry)) at (freshWords f) ⌝ }
+{
+    let bucket = Bucket {
+        tokens: f.burst,
+        count: 0,
+    };
+    let tally = Tally {
+        bucket,
+        entered: 0,
+        waiting: 0,
+    };
+    state::put_numbers(w, at, f);
+    state::put_tally(w, at, tally);
+}
+
+// Writes the flows of the records from a start on.
+fn put_flows(file: &[u8], start: usize, count: usize, w: &mut [u32])
+    requires { ⌜ start + recordSize * count ≤ length (now file) ⌝ }
+    requires { ⌜ flowPlace count ≤ length (now w) ⌝ }
+    ensures { λ _. ⌜ now (w .exit) ≡ sets (now (w .entry)) headerSize (joinBelow count (λ f. freshWords (flowFrom (now (file .entry)) (start + recordSize * f)))) ⌝ }
+{
+    for f in 0..count {
+        put_flow(w, 8 + 10 * f, plan::flow_at(file, start + 8 * f));
+    }
+}
+
+// Empties the registers of some routers from a place on.
+fn clear(w: &mut [u32], at: usize, routers: usize)
+    requires { ⌜ at + routerSize * routers ≤ length (now w) ⌝ }
+    ensures { λ _. ⌜ now (w .exit) ≡ sets (now (w .entry)) at (joinBelow routers (λ i. cellWords emptyCell)) ⌝ }
+{
+    for i in 0..routers {
+        state::put_four(w, at + 8 * i, 0, 0, 0, 0);
+        state::put_four(w, at + 8 * i + 4, 0, 0, 0, 0);
+    }
+}
+
+// The reset of an accepted file.
+fn reset_accepted(file: &[u8], w: &mut [u32]) -> Answer
+    requires { ⌜ trailerNumber (now file) ≡ 0 ⌝ }
+    ensures { λ r. ⌜ outcome r (now (w .exit)) ≡ freshOn (planOf (now (file .entry))) (now (w .entry)) ⌝ }
+{
+    let t = plan::read_trailer(file);
+    let count = t.count as usize;
+    let routers = (t.sx * t.sy) as usize;
+    let at = 8 + 10 * count;
+    if w.len() < at + 8 * routers {
+        return Answer::Refused {
+            number: 8,
+            place: 0,
+        };
+    }
+    put_header(w, t);
+    put_flows(file, t.start as usize, count, w);
+    clear(w, at, routers);
+    Answer::Done(0)
+}
+
+// Reset: the plan's refusals, then 8; otherwise the state's words are written. Words past its size stay.
+pub fn reset(file: &[u8], state: &mut [u32]) -> Answer
+    ensures { λ r. ⌜ outcome r (now (state .exit)) ≡ resetOn (now (file .entry)) (now (state .entry)) ⌝ }
+{
+    match plan::answer_of(file) {
+        Answer::Done(_) => reset_accepted(file, state),
+        Answer::Refused { number, place } => Answer::Refused { number, place },
+    }
+}

@@ -1,0 +1,15 @@
+-- The engine's definitions follow the packet book.
+pub mod View
+pub mod Entry
+pub mod Sends
+pub mod Outgoing
+pub mod Client
+pub mod Outputs
+pub mod Step
+pub mod Delivery
+pub mod Offer
+pub mod Forms
+pub mod Memory
+pub mod Calls
+pub mod Reset
+pub mod List

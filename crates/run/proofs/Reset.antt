@@ -1,0 +1,35 @@
+-- A refused reset leaves the words lent to it as they were. Rests on the definition of reset.
+use mathlib.Core.Bool.{Bool, true, false, false≢true}
+use mathlib.Core.List.{List}
+use mathlib.Core.Logic.{inl, inr}
+use mathlib.Core.Path.{_≡_, refl, sym, ap}
+use Prim.Native.Nat.{ℕ}
+use lib.Dec.{ltb}
+use lib.ListN.{length}
+use Rattle.laws.proofs.Cases.{test}
+use Rattle.plan.specs.declared.Answer.{Answer}
+use Rattle.plan.specs.declared.Answer.the-variants.{Done, Refused}
+use Rattle.plan.specs.Layout.{planOf}
+use Rattle.plan.specs.Refusals.{planAnswer}
+use Rattle.state.specs.Outcome.{unlessRefused}
+use Rattle.state.specs.Calls.{planSize, resetOn}
+
+abbrev isDone : Answer → Bool
+isDone (Done value) = true
+isDone (Refused number place) = false
+
+module _ (file words : List ℕ) where
+  abbrev few : Bool
+  few = ltb (length words) (planSize (planOf file))
+
+  pub reset-refused : (number place : ℕ) → (resetOn file words) .answer ≡ Refused number place → (resetOn file words) .memory ≡ words
+  unfolding resetOn unlessRefused
+  reset-refused number place e = by-plan (planAnswer file) refl
+    where
+      by-plan : (a : Answer) → planAnswer file ≡ a → (resetOn file words) .memory ≡ words
+      by-plan (Refused n q) p = rw p
+      by-plan (Done value) p =
+          elim (test few) [
+            | inl short ↦ rw (p, short)
+            | inr long ↦ absurd (false≢true (sym (ap isDone (rw (p, long) at e))))
+          ]

@@ -1,0 +1,94 @@
+-- What the program prints for a plan file (01, Cases on both sides, at the end).
+use mathlib.Core.List.{List, [], _∷_, _++_}
+use Prim.Native.Nat.{ℕ, zero, suc}
+use lib.ListN.{length}
+use Rattle.flow.specs.declared.Flow.{Flow}
+use Rattle.flow.specs.declared.Port.{Port}
+use Rattle.flow.specs.declared.Port.the-variants.{East, South}
+use Rattle.flow.specs.Offsets.{portOf}
+use Rattle.flow.specs.Plan.{Plan, flowAt}
+use Rattle.plan.specs.declared.Answer.{Answer}
+use Rattle.plan.specs.declared.Answer.the-variants.{Done, Refused}
+use Rattle.plan.specs.Layout.{planOf}
+use Rattle.plan.specs.Refusals.{planAnswer}
+use Rattle.window.specs.declared.Found.{Found}
+use Rattle.window.specs.declared.Found.the-variants.{At, Nothing}
+use Rattle.window.specs.Window.{windowOf, loneWait}
+use Rattle.window.specs.Flight.{flightBound}
+use Rattle.table.specs.Decimal.{decimal}
+
+-- the end of a line
+abbrev pub newline : List ℕ
+newline = 10 ∷ []
+
+-- a space and a number
+abbrev pub field : ℕ → List ℕ
+field n = (32 ∷ []) ++ decimal n
+
+-- a space and `-`
+abbrev pub noField : List ℕ
+noField = 32 ∷ 45 ∷ []
+
+-- a space and the port, `E` or `S`
+abbrev pub portField : Port → List ℕ
+portField East = 32 ∷ 69 ∷ []
+portField South = 32 ∷ 83 ∷ []
+
+-- a number, or `-` where 14 leaves none
+abbrev pub foundField : Found → List ℕ
+foundField (At n) = field n
+foundField Nothing = noField
+
+-- the lone wait, where there is a window
+abbrev pub waitOf : Flow → Found → Found
+waitOf f (At T) = At (loneWait f T)
+waitOf f Nothing = Nothing
+
+-- number, port, T, flight bound, lone wait
+unfoldable pub row : ℕ → Port → Found → ℕ → Found → List ℕ
+row f port window flight wait = decimal f ++ portField port ++ foundField window ++ field flight ++ foundField wait ++ newline
+
+-- the line of flow number f
+unfoldable pub line : Plan → ℕ → List ℕ
+line p f =
+    let flow = flowAt p f in
+    row f (portOf (p .sx) flow) (windowOf p f) (flightBound (p .sx) (p .sy) flow) (waitOf flow (windowOf p f))
+
+-- the lines of the first n flows
+unfoldable pub lines : Plan → ℕ → List ℕ
+lines p zero = []
+lines p (suc n) = lines p n ++ line p n
+
+-- no field is longer: a space and ten digits
+abbrev pub mostField : ℕ
+mostField = 11
+
+-- no line is longer
+abbrev pub mostLine : ℕ
+mostLine = 64
+
+-- no table is longer: a header and 256 lines
+abbrev pub mostTable : ℕ
+mostTable = 16448
+
+-- "flow port window flight wait"
+abbrev pub header : List ℕ
+header =
+    102 ∷ 108 ∷ 111 ∷ 119 ∷ 32
+    ∷ 112 ∷ 111 ∷ 114 ∷ 116 ∷ 32
+    ∷ 119 ∷ 105 ∷ 110 ∷ 100 ∷ 111 ∷ 119 ∷ 32
+    ∷ 102 ∷ 108 ∷ 105 ∷ 103 ∷ 104 ∷ 116 ∷ 32
+    ∷ 119 ∷ 97 ∷ 105 ∷ 116
+    ∷ newline
+
+-- "refused", number, place
+abbrev pub refusedLine : ℕ → ℕ → List ℕ
+refusedLine number place = (114 ∷ 101 ∷ 102 ∷ 117 ∷ 115 ∷ 101 ∷ 100 ∷ []) ++ field number ++ field place ++ newline
+
+abbrev pub tableBy : Answer → Plan → List ℕ
+tableBy (Done v) p = header ++ lines p (length (p .flows))
+tableBy (Refused number place) p = refusedLine number place
+
+-- the table of a plan file; a refused file prints one line and no header
+unfoldable pub tableOf : List ℕ → List ℕ
+tableOf file = tableBy (planAnswer file) (planOf file)

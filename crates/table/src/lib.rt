@@ -1,0 +1,166 @@
+// The table of a plan file as text in lent memory. Rests on bounds.
+use flow::Flow;
+use flow::Port;
+use plan::Answer;
+use plan::Trailer;
+use window::Found;
+ghost use mathlib.Core.Path.{_≡_};
+ghost use mathlib.Core.List.{_∷_, []};
+ghost use Prim.Native.Nat.{ℕ, _+_, _*_, _<_, _≤_};
+ghost use lib.ListN.{length};
+ghost use Rattle.laws.specs.Written.{Wrote};
+ghost use Rattle.flow.specs.Plan.{mostPeriod};
+ghost use Rattle.plan.specs.Layout.{planOf};
+ghost use Rattle.window.specs.declared.Found.the-variants.{At};
+ghost use Rattle.window.specs.Window.{mostWindow};
+ghost use Rattle.bounds.specs.Calls.{Opened};
+ghost use Rattle.table.specs.Decimal.{decimal, mostDigits};
+ghost use Rattle.table.specs.Table.{field, portField, foundField, waitOf, row, line, lines, header, refusedLine, tableOf, mostField, mostLine, mostTable};
+
+fn put_byte(out: &mut [u8], at: usize, b: u8) -> usize
+    requires { ⌜ at < length (now out) ⌝ }
+    ensures { λ r. ⌜ Wrote (now (out .entry)) at (b ∷ []) r (now (out .exit)) ⌝ }
+{
+    out[at] = b;
+    at + 1
+}
+
+fn put_text(out: &mut [u8], at: usize, text: &[u8]) -> usize
+    requires { ⌜ at + length (now text) ≤ length (now out) ⌝ }
+    ensures { λ r. ⌜ Wrote (now (out .entry)) at (now (text .entry)) r (now (out .exit)) ⌝ }
+{
+    let n = text.len();
+    for i in 0..n {
+        out[at + i] = text[i];
+    }
+    at + n
+}
+
+fn put_decimal(out: &mut [u8], at: usize, n: u32) -> usize
+    requires { ⌜ at + length (decimal n) ≤ length (now out) ⌝ }
+    ensures { λ r. ⌜ Wrote (now (out .entry)) at (decimal n) r (now (out .exit)) ⌝ }
+    ensures { λ r. ⌜ r ≤ at + mostDigits ⌝ }
+{
+    if n < 10 {
+        return put_byte(out, at, 48 + (n as u8));
+    }
+    let last = put_decimal(out, at, n / 10);
+    put_byte(out, last, 48 + ((n % 10) as u8))
+}
+
+fn put_field(out: &mut [u8], at: usize, n: u32) -> usize
+    requires { ⌜ at + mostField ≤ length (now out) ⌝ }
+    ensures { λ r. ⌜ Wrote (now (out .entry)) at (field n) r (now (out .exit)) ⌝ }
+    ensures { λ r. ⌜ r ≤ at + mostField ⌝ }
+{
+    let next = put_byte(out, at, b' ');
+    put_decimal(out, next, n)
+}
+
+fn put_found(out: &mut [u8], at: usize, found: Found) -> usize
+    requires { ⌜ at + mostField ≤ length (now out) ⌝ }
+    ensures { λ r. ⌜ Wrote (now (out .entry)) at (foundField found) r (now (out .exit)) ⌝ }
+    ensures { λ r. ⌜ r ≤ at + mostField ⌝ }
+{
+    match found {
+        Found::At(n) => put_field(out, at, n),
+        Found::Nothing => put_text(out, at, b" -"),
+    }
+}
+
+fn put_port(out: &mut [u8], at: usize, port: Port) -> usize
+    requires { ⌜ at + 2 ≤ length (now out) ⌝ }
+    ensures { λ r. ⌜ Wrote (now (out .entry)) at (portField port) r (now (out .exit)) ⌝ }
+    ensures { λ r. ⌜ r ≤ at + 2 ⌝ }
+{
+    match port {
+        Port::East => put_text(out, at, b" E"),
+        Port::South => put_text(out, at, b" S"),
+    }
+}
+
+fn put_row(
+    out: &mut [u8],
+    at: usize,
+    f: u32,
+    port: Port,
+    window: Found,
+    flight: u32,
+    wait: Found,
+) -> usize
+    requires { ⌜ at + mostLine ≤ length (now out) ⌝ }
+    ensures { λ r. ⌜ Wrote (now (out .entry)) at (row f port window flight wait) r (now (out .exit)) ⌝ }
+    ensures { λ r. ⌜ r ≤ at + mostLine ⌝ }
+{
+    let a = put_decimal(out, at, f);
+    let b = put_port(out, a, port);
+    let c = put_found(out, b, window);
+    let d = put_field(out, c, flight);
+    let e = put_found(out, d, wait);
+    put_byte(out, e, 10)
+}
+
+fn wait_of(flow: Flow, window: Found) -> Found
+    requires { ⌜ (1 ≤ flow .period) × (flow .period ≤ mostPeriod) ⌝ }
+    requires { ⌜ ((T : ℕ) → window ≡ At T → (1 ≤ T) × (T ≤ mostWindow)) ⌝ }
+    ensures { λ r. ⌜ r ≡ waitOf flow window ⌝ }
+{
+    match window {
+        Found::At(least) => Found::At(window::lone_wait(flow, least)),
+        Found::Nothing => Found::Nothing,
+    }
+}
+
+// The line of flow f of an accepted file.
+fn put_line(file: &[u8], t: Trailer, f: u32, out: &mut [u8], at: usize) -> usize
+    requires { ⌜ (Opened (now file) t) × ((f < t .count) × (at + mostLine ≤ length (now out))) ⌝ }
+    ensures { λ r. ⌜ Wrote (now (out .entry)) at (line (planOf (now (file .entry))) f) r (now (out .exit)) ⌝ }
+    ensures { λ r. ⌜ r ≤ at + mostLine ⌝ }
+{
+    let flow = bounds::flow_of(file, t, f);
+    let window = bounds::window_found(file, t, f);
+    let flight = bounds::flight_found(file, t, f);
+    let port = flow.port(t.sx);
+    let wait = wait_of(flow, window);
+    put_row(out, at, f, port, window, flight, wait)
+}
+
+fn put_refused(out: &mut [u8], at: usize, number: u32, place: u32) -> usize
+    requires { ⌜ at + mostLine ≤ length (now out) ⌝ }
+    ensures { λ r. ⌜ Wrote (now (out .entry)) at (refusedLine number place) r (now (out .exit)) ⌝ }
+    ensures { λ r. ⌜ r ≤ at + mostLine ⌝ }
+{
+    let a = put_text(out, at, b"refused");
+    let b = put_field(out, a, number);
+    let c = put_field(out, b, place);
+    put_byte(out, c, 10)
+}
+
+// The lines of all flows of an accepted file.
+fn put_lines(file: &[u8], t: Trailer, out: &mut [u8], at: usize) -> usize
+    requires { ⌜ (Opened (now file) t) × (at + mostLine * t .count ≤ length (now out)) ⌝ }
+    ensures { λ r. ⌜ Wrote (now (out .entry)) at (lines (planOf (now (file .entry))) (t .count)) r (now (out .exit)) ⌝ }
+    ensures { λ r. ⌜ r ≤ at + mostLine * t .count ⌝ }
+{
+    let count = t.count;
+    let mut next = at;
+    for f in 0..count {
+        next = put_line(file, t, f, out, next);
+    }
+    next
+}
+
+// The table of a plan file, from the start of the memory; answers its length.
+pub fn write(file: &[u8], out: &mut [u8]) -> usize
+    requires { ⌜ mostTable ≤ length (now out) ⌝ }
+    ensures { λ r. ⌜ Wrote (now (out .entry)) 0 (tableOf (now (file .entry))) r (now (out .exit)) ⌝ }
+    ensures { λ r. ⌜ r ≤ mostTable ⌝ }
+{
+    match plan::answer_of(file) {
+        Answer::Refused { number, place } => put_refused(out, 0, number, place),
+        Answer::Done(_) => {
+            let next = put_text(out, 0, b"flow port window flight wait\n");
+            put_lines(file, plan::read_trailer(file), out, next)
+        }
+    }
+}

@@ -1,0 +1,16 @@
+-- Flight bounds are small. Rests on specs/Flight and the ring's laws.
+use Prim.Native.Nat.{ℕ, _≤_}
+use native.Mathlib.Nat.{le-trans, mul-le-mul-left, mul-le-mul-right}
+use native.Mathlib.Omega.{arith}
+use Rattle.torus.proofs.Ring.{offset-below}
+use Rattle.flow.specs.declared.Flow.{Flow}
+use Rattle.flow.specs.Offsets.{ΔY}
+use Rattle.flow.specs.Plan.{FlowOk, mostSize}
+use Rattle.window.specs.Flight.{flightBound, mostFlight}
+
+pub flight-most : (sx sy : ℕ) (f : Flow) → FlowOk sx sy f → sx ≤ mostSize → sy ≤ mostSize → flightBound sx sy f ≤ mostFlight
+flight-most sx sy f ok h l =
+    let dx = offset-below sx (f .xs) (f .xd) (ok .xs-on) (ok .xd-on) in
+    let dy = offset-below sy (f .ys) (f .yd) (ok .ys-on) (ok .yd-on) in
+    let laps = le-trans (mul-le-mul-left (ΔY sy f) h) (mul-le-mul-right {m = ΔY sy f} {n = 15} 16 (omega arith)) in
+    omega arith

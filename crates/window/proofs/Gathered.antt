@@ -1,0 +1,74 @@
+-- Gathering a flow's rivals, flow by flow: what is added to their demand is that flow's share of I(t). Rests on Rivals and Spread.
+use mathlib.Core.List.{List}
+use mathlib.Core.Path.{_≡_, refl, sym, ap, fun-ext, _∙_}
+use Prim.Native.Nat.{ℕ, _+_, _*_, _≤_, _<_}
+use native.Mathlib.Omega.{arith}
+use borrow.Author.Tests.{eq-eqb, ne-eqb}
+use lib.ListN.{length}
+use Rattle.laws.specs.Bounded.{sumBelow}
+use Rattle.laws.proofs.Sum.{sum-none, sum-more}
+use Rattle.flow.specs.Plan.{Plan, PlanOk, flowAt}
+use Rattle.window.specs.declared.Conflict.{Conflict}
+use Rattle.window.specs.declared.Conflict.the-variants.{Free, Spread}
+use Rattle.window.specs.Conflict.{conflict}
+use Rattle.window.specs.Window.{share, shareOf, interference, leastFrom, mostWindow, windowOf}
+use Rattle.window.specs.Rivals.{rivalWords, mostRivalWords, demandOf, RivalsAmong, Kept, keptWith}
+use Rattle.window.proofs.Spread.{SpreadMost, none, some, spread-most}
+use Rattle.window.proofs.Rivals.{demand-none, with-demand, with-ok}
+
+-- no flows, no rivals
+pub among-none : (p : Plan) (f : ℕ) (l : List ℕ) → mostRivalWords ≤ length l → RivalsAmong p f 0 l 0
+among-none p f l long =
+    record {
+      words = record { few = omega arith; long = long; rival-ok = λ k b. absurd (omega arith) };
+      few = omega arith;
+      sum = λ t. demand-none l t ∙ sym (sum-none _);
+    }
+
+-- the rivals among all flows make I(t), so their least window is T
+pub among-all : (p : Plan) (f : ℕ) (l : List ℕ) (n : ℕ) → RivalsAmong p f (length (p .flows)) l n
+    → leastFrom (demandOf l n) mostWindow 1 ≡ windowOf p f
+unfolding windowOf interference
+among-all p f l n h = ap (λ (I : ℕ → ℕ). leastFrom I mostWindow 1) (fun-ext (h .sum))
+
+module _ (p : Plan) (f m : ℕ) (l : List ℕ) (n : ℕ) (h : RivalsAmong p f m l n) where
+  -- a flow is no rival of its own
+  pub among-self : m ≡ f → RivalsAmong p f (m + 1) l n
+  unfolding shareOf
+  among-self same =
+      record {
+        words = h .words;
+        few = omega (arith, h .few);
+        sum = λ t. h .sum t ∙ sym (sum-more (shareOf p f t) m ∙ rw (eq-eqb m f same) (omega arith));
+      }
+
+  module _ (ok : PlanOk p) (in-plan : f < length (p .flows)) (below : m < length (p .flows)) (other : m ≡ f → ⊥) where
+    next-sum : (t : ℕ) → sumBelow (m + 1) (shareOf p f t)
+        ≡ demandOf l n t + share (flowAt p m) t (conflict (p .sx) (p .sy) (flowAt p f) (flowAt p m))
+    unfolding shareOf
+    next-sum t = sum-more (shareOf p f t) m ∙ rw (h .sum t, ne-eqb m f other)
+
+    among-by : (c : Conflict) → conflict (p .sx) (p .sy) (flowAt p f) (flowAt p m) ≡ c → SpreadMost c
+        → let k = keptWith l n (flowAt p m) c in RivalsAmong p f (m + 1) (k .words) (k .count)
+    unfolding share
+    among-by Free e none =
+        record { words = h .words; few = omega (arith, h .few); sum = λ t. sym (rw e at (next-sum t) ∙ omega arith) }
+    among-by (Spread j) e (some most) =
+        let g = ok .flow-ok m below in
+        let few : n ≤ m = h .few in
+        let all = ok .flows-most in
+        let room : rivalWords * n + 2 < length l = omega (arith, h .words .long) in
+        record {
+          words = with-ok l n (flowAt p m) j room (h .words) (omega arith) (g .burst-least) (g .burst-most) (g .period-least) most;
+          few = omega arith;
+          sum = λ t. with-demand l n (flowAt p m) j room t ∙ sym (rw e at (next-sum t));
+        }
+
+    -- flow m with its conflict
+    pub among-more : (k : Kept) → k ≡ keptWith l n (flowAt p m) (conflict (p .sx) (p .sy) (flowAt p f) (flowAt p m))
+        → RivalsAmong p f (m + 1) (k .words) (k .count)
+    among-more k e =
+        rw e
+        (among-by _ refl
+        (spread-most (p .sx) (p .sy) (flowAt p f) (flowAt p m)
+        (record { sx-most = ok .sx-most; sy-most = ok .sy-most; own = ok .flow-ok f in-plan; other = ok .flow-ok m below })))

@@ -1,0 +1,2 @@
+-- Writing the bytes of a plan.
+pub mod Bytes

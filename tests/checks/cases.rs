@@ -1,0 +1,155 @@
+//! 01's "Cases on both sides", on the second simulator alone.
+
+use second::book::{Book, Router};
+use second::compare::plans::last_window;
+use second::plan::{Flow, Plan, Refusal, read};
+use second::state::{judge, words};
+use second::window::{flight_bound, listing, spread, window, window_call};
+use second::{calls, random};
+
+/// A plan on the 4 by 4 torus: each flow's six numbers.
+fn four_by_four(flows: &[[i64; 6]]) -> Plan {
+    let flows = flows.iter().map(|&numbers| Flow::from_numbers(numbers)).collect();
+    Plan { sx: 4, sy: 4, flows }
+}
+
+/// Offers one packet of each flow in cycle 0 and steps until all have left. Gives each line's
+/// entry, exit and D.
+fn one_packet_each(plan: Plan) -> Vec<(i64, i64, i64)> {
+    let mut book = Book::new(plan);
+    for f in 0..book.plan.flows.len() {
+        assert_eq!(book.offer(f as u32), Ok(0));
+    }
+    while book.lines.iter().any(|line| line.exit.is_none()) {
+        book.step(5 * book.plan.routers()).unwrap();
+    }
+    book.lines.iter().map(|line| (line.entry.unwrap(), line.exit.unwrap().0, line.d)).collect()
+}
+
+fn no(number: u64, place: u64) -> Result<u64, Refusal> {
+    Err(Refusal { number, place })
+}
+
+#[test]
+fn flights_unhindered_and_their_bounds() {
+    for (ends, dx, dy, flight, bound) in
+        [([0, 0, 3, 3], 3, 3, 8, 20), ([3, 3, 3, 1], 0, 2, 4, 12), ([2, 2, 2, 2], 0, 0, 2, 2)]
+    {
+        let [xs, ys, xd, yd] = ends;
+        let plan = four_by_four(&[[xs, ys, xd, yd, 1, 1]]);
+        assert_eq!((plan.dx(0), plan.dy(0)), (dx, dy));
+        assert_eq!(flight_bound(&plan, 0), bound);
+        let (entry, exit, d) = one_packet_each(plan)[0];
+        assert_eq!((exit - entry + 2, d), (flight, 0));
+    }
+}
+
+#[test]
+fn a_turning_packet_deflects_one_at_its_destination() {
+    let lines = one_packet_each(four_by_four(&[[0, 0, 0, 1, 10, 1], [3, 1, 0, 1, 10, 1]]));
+    assert_eq!(lines, [(0, 5, 1), (0, 1, 0)]);
+    let flights: Vec<_> = lines.iter().map(|(entry, exit, _)| exit - entry + 2).collect();
+    assert_eq!(flights, [7, 3]);
+}
+
+#[test]
+fn windows() {
+    let f = [1, 0, 2, 0, 10, 1];
+    for (period, burst, t) in [(10, 1, Some(2)), (2, 3, Some(6)), (1, 1, None)] {
+        let plan = four_by_four(&[f, [0, 0, 3, 0, period, burst]]);
+        assert_eq!(window(&plan, 0), t);
+        let answer = t.map_or(no(14, 0), |t| Ok(t as u64));
+        assert_eq!(window_call(&plan.file(&[]), 0), answer);
+    }
+    let plan = four_by_four(&[[0, 2, 0, 3, 10, 1], [0, 0, 0, 3, 8, 1]]);
+    assert_eq!((spread(&plan, 0, 1), window(&plan, 0)), (Some(8), Some(3)));
+}
+
+#[test]
+fn the_last_window() {
+    assert_eq!(window(&last_window(1), 0), Some(65_535));
+    assert_eq!(window_call(&last_window(2).file(&[]), 0), no(14, 0));
+}
+
+#[test]
+fn the_next_token_comes_after_a_period() {
+    let mut book = Book::new(four_by_four(&[[0, 0, 1, 0, 10, 1]]));
+    book.offer(0).unwrap();
+    let mut tokens = Vec::new();
+    for _ in 0..12 {
+        tokens.push(book.buckets[0].tokens);
+        book.step(80).unwrap();
+    }
+    assert_eq!(book.lines[0].entry, Some(0));
+    assert_eq!(tokens, [1, 0, 0, 0, 0, 0, 0, 0, 0, 0, 1, 1]);
+}
+
+#[test]
+fn the_last_offer_and_the_last_cycle() {
+    let mut book = Book::new(four_by_four(&[[0, 0, 1, 0, 10, 1]]));
+    for _ in 0..65_535 {
+        assert_eq!(book.offer(0), Ok(0));
+    }
+    assert_eq!(book.offer(0), no(13, 0));
+    let mut state = words(&Book::new(four_by_four(&[[0, 0, 1, 0, 10, 1]])));
+    let mut delivery = [7; 80];
+    state[3] = 4_294_967_294;
+    assert_eq!(calls::step(&mut state, &mut delivery), Ok(0));
+    assert_eq!(state[3], 4_294_967_295);
+    assert_eq!(calls::step(&mut state, &mut delivery), no(11, 0));
+}
+
+#[test]
+fn plan_sizes() {
+    assert_eq!(read(&[0; 11]).unwrap_err(), Refusal { number: 1, place: 0 });
+    for (size, taken) in [(1, true), (16, true), (17, false)] {
+        let mut plan = four_by_four(&[[0, 0, 0, 0, 10, 1]]);
+        (plan.sx, plan.sy) = (size, 1);
+        let answer = read(&plan.file(&[])).map(|(plan, _)| plan.sx);
+        let expected = if taken { Ok(size) } else { Err(Refusal { number: 3, place: 0 }) };
+        assert_eq!(answer, expected);
+    }
+}
+
+#[test]
+fn the_smallest_torus() {
+    let plan = Plan { sx: 1, sy: 1, flows: vec![Flow::from_numbers([0, 0, 0, 0, 3, 2])] };
+    let mut book = Book::new(plan);
+    for _ in 0..3 {
+        book.offer(0).unwrap();
+    }
+    let exits: Vec<_> = (0..4).map(|_| book.step(5).unwrap()).collect();
+    assert_eq!(
+        exits,
+        [vec![[0, 1, 0, 0, 0]], vec![[0, 2, 1, 1, 0]], vec![], vec![[0, 3, 3, 3, 0]]]
+    );
+    assert_eq!(book.lines[2].exit, Some((3, Router { row: 0, column: 0 })));
+}
+
+#[test]
+fn the_sample_listing() {
+    let file = [
+        0x01, 0x00, 0x02, 0x00, 0x0A, 0x00, 0x01, 0x00, 0x00, 0x00, 0x03, 0x00, 0x0A, 0x00, 0x01,
+        0x00, 0x00, 0x00, 0x00, 0x00, 0x02, 0x00, 0x04, 0x04, 0x48, 0x52, 0x54, 0x50,
+    ];
+    assert_eq!(listing(&file), "flow port window flight wait\n0 E 2 3 10\n1 E 1 5 9\n");
+    assert_eq!(listing(&file[..11]), "refused 1 0\n");
+    let mut damaged = file;
+    damaged[27] = 0x51;
+    assert_eq!(listing(&damaged), "refused 2 0\n");
+    damaged = file;
+    damaged[15] = 1;
+    assert_eq!(listing(&damaged), "refused 7 1\n");
+}
+
+/// A state that no run reaches (two lines with one serial) is a state all the same.
+#[test]
+fn made_up_states_are_states() {
+    let mut random = random::Random::new(1);
+    for _ in 0..300 {
+        let plan = random::any_plan(&mut random);
+        let state = random::state(&mut random, &plan);
+        let book = judge(&state).expect("made to be a state");
+        assert_eq!(words(&book), state, "the lines give the words back");
+    }
+}

@@ -1,0 +1,60 @@
+//! Each call as 01 states it, on lent memory: what it answers and what the memory is afterwards.
+
+use crate::book::Book;
+use crate::plan::{MOST_BYTES, RECORD, Refusal, TRAILER, read, refuse};
+use crate::state::{judge, words};
+
+pub type Answer = Result<u64, Refusal>;
+
+/// The notes' call: the length of the notes, which lead the file.
+pub fn notes(file: &[u8]) -> Answer {
+    read(file).map(|(_, notes)| notes.len() as u64)
+}
+
+/// Reset: plan, then 8.
+pub fn reset(file: &[u8], memory: &mut [u32]) -> Answer {
+    let (plan, _) = read(file)?;
+    if memory.len() < plan.state_words() {
+        return refuse(8, 0);
+    }
+    lay_down(&Book::new(plan), memory);
+    Ok(0)
+}
+
+/// Writes the book's words over the front of the memory; what is past them stays.
+fn lay_down(book: &Book, memory: &mut [u32]) {
+    let words = words(book);
+    memory[..words.len()].copy_from_slice(&words);
+}
+
+/// Offer: 8 and 9, then 12, 13.
+pub fn offer(memory: &mut [u32], flow: u32) -> Answer {
+    let mut book = judge(memory)?;
+    book.offer(flow)?;
+    lay_down(&book, memory);
+    Ok(0)
+}
+
+/// Step: 8 and 9, then 10, 11.
+pub fn step(memory: &mut [u32], delivery: &mut [u32]) -> Answer {
+    let mut book = judge(memory)?;
+    let exits = book.step(delivery.len())?;
+    lay_down(&book, memory);
+    let exits = exits.concat();
+    delivery[..exits.len()].copy_from_slice(&exits);
+    Ok(exits.len() as u64 / 5)
+}
+
+/// Writing: 8 and 9, then 1, 15.
+pub fn write(memory: &[u32], notes: &[u8], target: &mut [u8]) -> Answer {
+    let plan = judge(memory)?.plan;
+    let length = notes.len() + RECORD * plan.flows.len() + TRAILER;
+    if length > MOST_BYTES {
+        return refuse(1, 0);
+    }
+    if target.len() < length {
+        return refuse(15, 0);
+    }
+    target[..length].copy_from_slice(&plan.file(notes));
+    Ok(length as u64)
+}

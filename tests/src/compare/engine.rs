@@ -1,0 +1,67 @@
+//! The engine's calls one at a time, on any memory: answer and memory as 01 states them.
+
+use super::{Call, Tally, Twin};
+use crate::calls;
+use crate::host::Engine;
+use crate::random::Random;
+
+/// Each call has been accepted, and refused with each number that it has.
+pub fn all_came_up(tally: &Tally) {
+    tally.must_have_come_up("reset", &[1, 2, 3, 4, 5, 6, 7, 8]);
+    tally.must_have_come_up("offer", &[8, 9, 12, 13]);
+    tally.must_have_come_up("step", &[8, 9, 10, 11]);
+    tally.must_have_come_up("write", &[8, 9, 1, 15]);
+}
+
+pub fn reset(host: &impl Engine, tally: &mut Tally, file: &[u8], state: &mut Twin<u32>) {
+    let expected = calls::reset(file, state.expected());
+    let got = host.reset(file, state.got());
+    let call = Call { name: "reset", with: &(file, state.lent.len()) };
+    tally.answer(call, expected, got);
+    tally.memory(call, state);
+}
+
+pub fn offer(host: &impl Engine, tally: &mut Tally, state: &mut Twin<u32>, flow: u32) {
+    let before = state.expected().to_vec();
+    let expected = calls::offer(state.expected(), flow);
+    let got = host.offer(state.got(), flow);
+    let call = Call { name: "offer", with: &(flow, before) };
+    tally.answer(call, expected, got);
+    tally.memory(call, state);
+}
+
+/// A step that is lent so many words of noise for its deliveries.
+pub fn step(
+    host: &impl Engine,
+    tally: &mut Tally,
+    random: &mut Random,
+    state: &mut Twin<u32>,
+    room: usize,
+) {
+    let before = state.expected().to_vec();
+    let mut delivery = Twin::noise_words(random, room);
+    let expected = calls::step(state.expected(), delivery.expected());
+    let got = host.step(state.got(), delivery.got());
+    let call = Call { name: "step", with: &(room, before) };
+    tally.answer(call, expected, got);
+    tally.memory(call, state);
+    tally.memory(call, &delivery);
+}
+
+/// Writing to a target of so many bytes of noise.
+pub fn write(
+    host: &impl Engine,
+    tally: &mut Tally,
+    random: &mut Random,
+    state: &mut Twin<u32>,
+    notes: &[u8],
+    room: usize,
+) {
+    let mut target = Twin::noise_bytes(random, room);
+    let expected = calls::write(state.expected(), notes, target.expected());
+    let got = host.write(state.got(), notes, target.got());
+    let call = Call { name: "write", with: &(notes.len(), room, state.expected().to_vec()) };
+    tally.answer(call, expected, got);
+    tally.memory(call, state);
+    tally.memory(call, &target);
+}

@@ -1,0 +1,193 @@
+//! Lists of calls after a reset: the book is fed each call's kind and arguments, and after each
+//! call its answer, its deliveries and the words of its state are compared, whole.
+
+use super::{Call, Tally, Twin, engine};
+use crate::book::{Book, Delivery};
+use crate::calls::Answer;
+use crate::host::Engine;
+use crate::plan::Plan;
+use crate::promises::{Windows, check, check_live, windows};
+use crate::random::{self, Random};
+use crate::slips::{met_exactly, refuted};
+use crate::state::words;
+use crate::worst::{Worst, worst_wait};
+
+/// A list under way.
+pub struct List<'a, E> {
+    host: &'a E,
+    book: Book,
+    state: Twin<u32>,
+    windows: Windows,
+    delivered: Vec<Delivery>,
+    file: Vec<u8>,
+}
+
+impl<'a, E: Engine> List<'a, E> {
+    /// Resets noise to this plan. The entry promise is watched for few flows of a large plan.
+    pub fn new(host: &'a E, tally: &mut Tally, random: &mut Random, plan: Plan) -> List<'a, E> {
+        let file = plan.file(&random::notes(random, &plan));
+        let past = random.index(9);
+        let mut state = Twin::noise_words(random, plan.state_words() + past);
+        engine::reset(host, tally, &file, &mut state);
+        let flows = plan.flows.len();
+        let watched = random.index(flows);
+        let book = Book::new(plan);
+        let windows = windows(&book, |f| flows <= 6 || f == watched);
+        List { host, book, state, windows, delivered: Vec::new(), file }
+    }
+
+    pub fn offer(&mut self, tally: &mut Tally, flow: u32) {
+        let expected = self.book.offer(flow);
+        let got = self.host.offer(self.state.got(), flow);
+        self.compare(tally, "offer", flow as usize, expected, got);
+    }
+
+    /// A step that is lent so many words for its deliveries.
+    pub fn step(&mut self, tally: &mut Tally, random: &mut Random, room: usize) {
+        let mut delivery = Twin::noise_words(random, room);
+        let exits = self.book.step(room);
+        let expected = exits.as_ref().map(|exits| exits.len() as u64).map_err(|no| *no);
+        if let Ok(exits) = exits {
+            let words = exits.concat();
+            delivery.expected()[..words.len()].copy_from_slice(&words);
+            self.delivered.extend(exits);
+        }
+        let got = self.host.step(self.state.got(), delivery.got());
+        self.compare(tally, "step", room, expected, got);
+        let with = &("deliveries", self.book.clock, &self.file);
+        tally.memory(Call { name: "step", with }, &delivery);
+    }
+
+    fn compare(
+        &mut self,
+        tally: &mut Tally,
+        name: &'static str,
+        with: usize,
+        expected: Answer,
+        got: u64,
+    ) {
+        let words = words(&self.book);
+        self.state.expected()[..words.len()].copy_from_slice(&words);
+        let call = Call { name, with: &(with, "clock", self.book.clock, "plan", &self.file) };
+        tally.answer(call, expected, got);
+        tally.memory(call, &self.state);
+        check_live(&self.book, &self.windows);
+    }
+
+    /// A call that isn't fed to the book: writing, a refused reset, or too little of the state lent.
+    fn unfed(&mut self, tally: &mut Tally, random: &mut Random) {
+        let size = self.book.plan.state_words();
+        let whole = self.state.lent.clone();
+        if random.percent(60) {
+            self.state.lent.end = whole.start + random.index(size);
+        }
+        let short = self.state.lent != whole;
+        match random.from(0, 3) {
+            0 if short => engine::offer(self.host, tally, &mut self.state, 0),
+            1 if short => engine::step(self.host, tally, random, &mut self.state, 1280),
+            2 if short => engine::reset(self.host, tally, &self.file, &mut self.state),
+            2 => {
+                let cut = &self.file[..random.index(self.file.len())];
+                engine::reset(self.host, tally, cut, &mut self.state)
+            }
+            _ => {
+                let notes = random.bytes(9);
+                let length = notes.len() + 8 * self.book.plan.flows.len() + 12;
+                let room = length + 3 - random.index(5);
+                engine::write(self.host, tally, random, &mut self.state, &notes, room)
+            }
+        }
+        self.state.lent = whole;
+    }
+
+    /// The promises on all lines, at the end.
+    pub fn end(self) {
+        check(&self.book, &self.windows, &self.delivered);
+    }
+}
+
+/// A list of so many calls, with refused and unfed ones between them.
+fn run(host: &impl Engine, tally: &mut Tally, random: &mut Random, plan: Plan, calls: usize) {
+    let flows = plan.flows.len();
+    let room = 5 * plan.routers();
+    let mut list = List::new(host, tally, random, plan);
+    let steps = random.pick(&[10, 50, 90]);
+    for _ in 0..calls {
+        match random.from(1, 100) {
+            1 => list.offer(tally, flows as u32 + random.pick(&[0, 1, 1 << 20])),
+            2 => {
+                let short = random.index(room);
+                list.step(tally, random, short)
+            }
+            3..7 => list.unfed(tally, random),
+            _ if random.percent(steps) => {
+                let past = random.index(7);
+                list.step(tally, random, room + past)
+            }
+            _ => list.offer(tally, random.index(flows) as u32),
+        }
+    }
+    list.end();
+}
+
+/// A short list of a random plan on this torus, seldom a long one.
+pub fn round(host: &impl Engine, tally: &mut Tally, random: &mut Random, sx: i64, sy: i64) {
+    let flows = random::flow_count(random);
+    let plan = random::plan(random, sx, sy, flows);
+    let calls = if random.percent(2) { 6000 } else { 200 };
+    run(host, tally, random, plan, calls);
+}
+
+/// A saturated run: before each step an offer of every flow that has few packets waiting.
+pub fn saturated(
+    host: &impl Engine,
+    tally: &mut Tally,
+    random: &mut Random,
+    plan: Plan,
+    steps: usize,
+) {
+    let room = 5 * plan.routers();
+    let flows = plan.flows.len();
+    let mut list = List::new(host, tally, random, plan);
+    for _ in 0..steps {
+        for flow in 0..flows {
+            if list.book.waiting[flow].len() < 2 {
+                list.offer(tally, flow as u32);
+            }
+        }
+        list.step(tally, random, room);
+    }
+    list.end();
+}
+
+/// As many offers as are taken, and two more; then a few steps.
+pub fn full_queue(host: &impl Engine, tally: &mut Tally, random: &mut Random) {
+    let mut list = List::new(host, tally, random, met_exactly().0);
+    for _ in 0..65_537 {
+        list.offer(tally, 1);
+    }
+    for _ in 0..9 {
+        list.step(tally, random, 80);
+        list.offer(tally, 1);
+    }
+    list.end();
+}
+
+/// The lists that refute each slipped window, and the one that meets the bound.
+pub fn worst_lists(host: &impl Engine, tally: &mut Tally, random: &mut Random) {
+    let lists = refuted().into_iter().map(|row| {
+        let worst = worst_wait(&row.plan, row.f);
+        (row.plan, worst)
+    });
+    for (plan, Worst { offers, .. }) in lists.chain([met_exactly()]) {
+        let room = 5 * plan.routers();
+        let mut list = List::new(host, tally, random, plan);
+        for flows in offers {
+            for flow in flows {
+                list.offer(tally, flow);
+            }
+            list.step(tally, random, room);
+        }
+        list.end();
+    }
+}

@@ -1,0 +1,106 @@
+//! Plan files at the boundary of each refusal, and damaged ones.
+
+use crate::plan::{Flow, MOST_BYTES, Plan};
+use crate::random::Random;
+
+/// Files on both sides of the refusals 1 to 7, with one fault and with two at once.
+pub fn at_boundaries() -> Vec<Vec<u8>> {
+    let mut files = changed(&base(), &[0, 1, 2, 3, 4, 5, 15, 16, 17, 254, 255]);
+    for file in changed(&base(), &[0, 17]) {
+        files.extend(changed(&file, &[0, 17]));
+    }
+    files.extend(lengths());
+    files.extend([1, 2, 3].map(wrapped_start));
+    files.extend([1, 2].map(|burst| last_window(burst).file(&[])));
+    files
+}
+
+/// Flow 0's window is 65,535 with burst 1 of flow 2, and with burst 2 it would be one of 65,536 or
+/// more: eight rivals with periods 2, 4 to 256, each with spread 1.
+pub fn last_window(burst: i64) -> Plan {
+    let flow = |ys, period, burst| Flow::from_numbers([0, ys, 0, 1, period, burst]);
+    let mut flows = vec![flow(1, 1, 1), flow(0, 2, 255), flow(0, 4, burst)];
+    flows.extend((3..=8).map(|power| flow(0, 1 << power, 1)));
+    Plan { sx: 1, sy: 2, flows }
+}
+
+/// Three flows on a 5 by 3 torus, with notes.
+fn base() -> Vec<u8> {
+    let flows = [[0, 0, 4, 2, 65_535, 255], [4, 2, 0, 0, 1, 1], [3, 1, 3, 1, 256, 7]];
+    let flows = flows.map(Flow::from_numbers).to_vec();
+    Plan { sx: 5, sy: 3, flows }.file(b"notes")
+}
+
+/// The file with one byte changed: each byte of records and trailer, to each of these values.
+fn changed(file: &[u8], values: &[u8]) -> Vec<Vec<u8>> {
+    let mut files = Vec::new();
+    for at in file.len() - 36..file.len() {
+        for &value in values {
+            let mut changed = file.to_vec();
+            changed[at] = value;
+            files.push(changed);
+        }
+    }
+    files
+}
+
+/// So many records are missing in front, and the start is as far below 2^32: no match, since
+/// nothing wraps.
+fn wrapped_start(missing: usize) -> Vec<u8> {
+    let mut file = base().split_off(5 + 8 * missing);
+    let trailer = file.len() - 12;
+    let start = (8 * missing as u32).wrapping_neg();
+    file[trailer..trailer + 4].copy_from_slice(&start.to_le_bytes());
+    file
+}
+
+/// Lengths from 0, the longest file and one byte more, and the counts 1, 256 and 257.
+fn lengths() -> Vec<Vec<u8>> {
+    let base = base();
+    let mut files: Vec<Vec<u8>> = (0..=base.len()).map(|length| base[..length].to_vec()).collect();
+    files.extend((0..base.len()).map(|from| base[from..].to_vec()));
+    for flows in [1, 255, 256, 257] {
+        let flow = Flow::from_numbers([15, 15, 0, 0, 900, 1]);
+        let plan = Plan { sx: 16, sy: 16, flows: vec![flow; flows] };
+        let room = MOST_BYTES - plan.file(&[]).len();
+        for notes in [0, 1, room - 1, room, room + 1] {
+            files.push(plan.file(&vec![0x48; notes]));
+        }
+    }
+    files.push(vec![0; MOST_BYTES]);
+    files.push(vec![0; MOST_BYTES + 1]);
+    files
+}
+
+/// Damages a file: bytes changed, cut off, added or moved. It may still be a plan.
+pub fn damage(random: &mut Random, file: &mut Vec<u8>) {
+    for _ in 0..random.from(1, 3) {
+        let length = file.len();
+        // Most damage is near the trailer, where it is told soonest.
+        let at = if random.percent(50) {
+            length.saturating_sub(1 + random.index(12))
+        } else {
+            random.index(length + 1)
+        };
+        match random.from(0, 9) {
+            0 => file.truncate(at),
+            1 => file.extend(random.bytes(8)),
+            2 => file.insert(at, 0),
+            3 if length > 0 => drop(file.remove(at.min(length - 1))),
+            4 => file.rotate_left(at),
+            _ if length > 0 => {
+                let at = at.min(length - 1);
+                let near = [
+                    file[at].wrapping_sub(1),
+                    file[at].wrapping_add(1),
+                    random.draw() as u8,
+                    0,
+                    16,
+                    17,
+                ];
+                file[at] = random.pick(&near);
+            }
+            _ => file.push(0),
+        }
+    }
+}

@@ -1,0 +1,15 @@
+//! A second simulator of the torus engine and a second reckoning of its bounds, written from
+//! 01's text by the packet book's lines; and the comparison of another engine with it.
+
+pub mod archive;
+pub mod book;
+pub mod calls;
+pub mod compare;
+pub mod host;
+pub mod plan;
+pub mod promises;
+pub mod random;
+pub mod slips;
+pub mod state;
+pub mod window;
+pub mod worst;

@@ -1,0 +1,134 @@
+//! Plan files, by 01's "Torus and plan file", and the refusals 1 to 7.
+//! Numbers are integers here (i64), so that nothing wraps.
+
+/// What a refused call returns: a number of 01's table and a place.
+#[derive(Clone, Copy, Debug, PartialEq, Eq)]
+pub struct Refusal {
+    pub number: u64,
+    pub place: u64,
+}
+
+pub fn refuse<T>(number: u64, place: usize) -> Result<T, Refusal> {
+    let place = place as u64;
+    Err(Refusal { number, place })
+}
+
+/// One flow: its six plan numbers in record order.
+#[derive(Clone, Copy, Debug, PartialEq, Eq)]
+pub struct Flow {
+    pub xs: i64,
+    pub ys: i64,
+    pub xd: i64,
+    pub yd: i64,
+    pub period: i64,
+    pub burst: i64,
+}
+
+impl Flow {
+    pub fn numbers(&self) -> [i64; 6] {
+        [self.xs, self.ys, self.xd, self.yd, self.period, self.burst]
+    }
+
+    pub fn from_numbers([xs, ys, xd, yd, period, burst]: [i64; 6]) -> Flow {
+        Flow { xs, ys, xd, yd, period, burst }
+    }
+}
+
+#[derive(Clone, Copy, Debug, PartialEq, Eq)]
+pub enum Port {
+    East,
+    South,
+}
+
+#[derive(Clone, Debug, PartialEq, Eq)]
+pub struct Plan {
+    pub sx: i64,
+    pub sy: i64,
+    pub flows: Vec<Flow>,
+}
+
+pub const MOST_BYTES: usize = 65_536;
+pub const TRAILER: usize = 12;
+pub const RECORD: usize = 8;
+
+impl Plan {
+    /// ΔX of flow f.
+    pub fn dx(&self, f: usize) -> i64 {
+        (self.flows[f].xd - self.flows[f].xs).rem_euclid(self.sx)
+    }
+
+    /// ΔY of flow f.
+    pub fn dy(&self, f: usize) -> i64 {
+        (self.flows[f].yd - self.flows[f].ys).rem_euclid(self.sy)
+    }
+
+    pub fn port(&self, f: usize) -> Port {
+        if self.dx(f) > 0 { Port::East } else { Port::South }
+    }
+
+    pub fn routers(&self) -> usize {
+        (self.sx * self.sy) as usize
+    }
+
+    /// How many words the state of this plan has.
+    pub fn state_words(&self) -> usize {
+        8 + 10 * self.flows.len() + 8 * self.routers()
+    }
+
+    /// The plan file with these notes. Numbers that don't fit their bytes lose their high part.
+    pub fn file(&self, notes: &[u8]) -> Vec<u8> {
+        let mut file = notes.to_vec();
+        for flow in &self.flows {
+            let [xs, ys, xd, yd, period, burst] = flow.numbers();
+            file.extend([xs as u8, ys as u8, xd as u8, yd as u8]);
+            file.extend((period as u16).to_le_bytes());
+            file.extend([burst as u8, 0]);
+        }
+        file.extend((notes.len() as u32).to_le_bytes());
+        file.extend((self.flows.len() as u16).to_le_bytes());
+        file.extend([self.sx as u8, self.sy as u8]);
+        file.extend(b"HRTP");
+        file
+    }
+}
+
+fn little_endian(bytes: &[u8]) -> usize {
+    bytes.iter().rev().fold(0, |number, &byte| 256 * number + byte as usize)
+}
+
+/// Reads a plan file: the plan and the notes, or the first refusal of 1 to 7.
+pub fn read(file: &[u8]) -> Result<(Plan, &[u8]), Refusal> {
+    if file.len() < TRAILER || file.len() > MOST_BYTES {
+        return refuse(1, 0);
+    }
+    let (body, trailer) = file.split_at(file.len() - TRAILER);
+    if &trailer[8..12] != b"HRTP" {
+        return refuse(2, 0);
+    }
+    let (sx, sy) = (trailer[6] as i64, trailer[7] as i64);
+    if !(1..=16).contains(&sx) || !(1..=16).contains(&sy) {
+        return refuse(3, 0);
+    }
+    let count = little_endian(&trailer[4..6]);
+    if count == 0 || count > 256 {
+        return refuse(4, 0);
+    }
+    let start = little_endian(&trailer[0..4]);
+    if start + RECORD * count != body.len() {
+        return refuse(5, 0);
+    }
+    let (notes, records) = body.split_at(start);
+    let mut flows = Vec::new();
+    for (f, record) in records.chunks(RECORD).enumerate() {
+        let [xs, ys, xd, yd] = [0, 1, 2, 3].map(|i| record[i] as i64);
+        if xs >= sx || xd >= sx || ys >= sy || yd >= sy {
+            return refuse(6, f);
+        }
+        let (period, burst) = (little_endian(&record[4..6]) as i64, record[6] as i64);
+        if period == 0 || burst == 0 || record[7] != 0 {
+            return refuse(7, f);
+        }
+        flows.push(Flow { xs, ys, xd, yd, period, burst });
+    }
+    Ok((Plan { sx, sy, flows }, notes))
+}

@@ -1,0 +1,85 @@
+//! What 01 promises of the book after every list, asserted on its own lines.
+
+use crate::book::{Book, Delivery, Line};
+use crate::window::window;
+
+/// The windows of the flows whose entry promise is watched (None: not watched, or no window).
+pub type Windows = Vec<Option<i64>>;
+
+/// T of the flows that `watch` names.
+pub fn windows(book: &Book, watch: impl Fn(usize) -> bool) -> Windows {
+    let watched = |f| {
+        if watch(f) { window(&book.plan, f) } else { None }
+    };
+    (0..book.plan.flows.len()).map(watched).collect()
+}
+
+/// The promises on all lines, and that the list delivered exactly the lines with an exit.
+pub fn check(book: &Book, windows: &Windows, delivered: &[Delivery]) {
+    for line in &book.lines {
+        check_line(book, windows, line);
+    }
+    check_indexes(book);
+    check_delivered(book, delivered);
+}
+
+/// The promises on the lines that can still change: enough after a single call.
+pub fn check_live(book: &Book, windows: &Windows) {
+    let waiting = book.waiting.iter().filter_map(|lines| lines.front());
+    for &line in book.placed.iter().chain(waiting) {
+        check_line(book, windows, &book.lines[line]);
+    }
+}
+
+fn check_line(book: &Book, windows: &Windows, line: &Line) {
+    let plan = &book.plan;
+    let f = line.flow;
+    if let Some(t) = windows[f] {
+        let latest = line.offer + (line.q + 1) * (plan.flows[f].period + t - 1) - 1;
+        let by = line.entry.unwrap_or(book.clock);
+        assert!(by <= latest, "{line:?} enters after {latest}, clock {}", book.clock);
+    }
+    assert!(line.d <= plan.dy(f), "more deflections than ΔY: {line:?}");
+    let due = |entry: i64| entry + plan.dx(f) + plan.dy(f) + line.d * plan.sx;
+    match (line.entry, line.exit) {
+        (Some(entry), Some((exit, router))) => {
+            let destination = (plan.flows[f].xd, plan.flows[f].yd);
+            assert_eq!((router.column, router.row), destination, "left elsewhere: {line:?}");
+            assert_eq!(exit, due(entry), "left at another time: {line:?}");
+            assert_eq!(line.place, None, "left and still there: {line:?}");
+        }
+        (Some(entry), None) => {
+            assert!(line.place.is_some(), "entered and nowhere: {line:?}");
+            assert!(book.clock <= due(entry), "still there at {}: {line:?}", book.clock);
+        }
+        (None, exit) => assert_eq!((line.place, exit), (None, None), "not entered: {line:?}"),
+    }
+}
+
+/// The book's indexes and serials say what the lines say.
+fn check_indexes(book: &Book) {
+    let flows = book.plan.flows.len();
+    let (mut lines, mut entered, mut waiting) = (vec![0; flows], vec![0; flows], vec![0; flows]);
+    let mut placed = 0;
+    for line in &book.lines {
+        lines[line.flow] += 1;
+        assert_eq!(line.serial, lines[line.flow], "serials count a flow's lines");
+        entered[line.flow] += line.entry.is_some() as i64;
+        waiting[line.flow] += line.entry.is_none() as usize;
+        placed += line.place.is_some() as usize;
+    }
+    assert_eq!(entered, book.entered);
+    assert_eq!(waiting, book.waiting.iter().map(|lines| lines.len()).collect::<Vec<_>>());
+    assert_eq!(placed, book.placed.len());
+}
+
+fn check_delivered(book: &Book, delivered: &[Delivery]) {
+    let left = book.lines.iter().filter_map(|line| {
+        let numbers = [line.flow as i64, line.serial, line.entry?, line.exit?.0, line.d];
+        Some(numbers.map(|number| number as u32))
+    });
+    let (mut left, mut delivered) = (left.collect::<Vec<_>>(), delivered.to_vec());
+    left.sort();
+    delivered.sort();
+    assert_eq!(left, delivered, "each line with an exit is delivered once, and nothing else");
+}

@@ -1,0 +1,106 @@
+//! Windows and flight bounds, by 01's "Windows". The search goes t by t, with no leaps.
+
+use crate::plan::{Plan, Port, Refusal, read, refuse};
+
+/// The spread J of flow g at the source of flow f, or None where g doesn't conflict with f.
+pub fn spread(plan: &Plan, f: usize, g: usize) -> Option<i64> {
+    if g == f {
+        return None;
+    }
+    let (x, y) = (plan.flows[f].xs, plan.flows[f].ys);
+    let rival = &plan.flows[g];
+    if (rival.xs, rival.ys) == (x, y) {
+        return Some(0);
+    }
+    let r = (y - rival.ys).rem_euclid(plan.sy);
+    let j = (x - rival.xs).rem_euclid(plan.sx);
+    match plan.port(f) {
+        Port::East if r == 0 => (1 <= j && j <= plan.dx(g)).then_some(0),
+        Port::East => (r <= plan.dy(g)).then_some((r - 1) * plan.sx),
+        Port::South => (rival.xd == x && r <= plan.dy(g)).then_some(r * plan.sx),
+    }
+}
+
+/// A conflicting flow as I(t) sees it.
+#[derive(Clone, Copy)]
+pub struct Rival {
+    pub burst: u32,
+    pub period: u32,
+    pub spread: u32,
+}
+
+pub fn rivals(plan: &Plan, f: usize) -> Vec<Rival> {
+    rivals_by(plan, |g| spread(plan, f, g))
+}
+
+/// The rivals by some rule that gives the spread of a flow that conflicts.
+pub fn rivals_by(plan: &Plan, rule: impl Fn(usize) -> Option<i64>) -> Vec<Rival> {
+    let rival = |g: usize| {
+        let (burst, period) = (plan.flows[g].burst as u32, plan.flows[g].period as u32);
+        rule(g).map(|spread| Rival { burst, period, spread: spread as u32 })
+    };
+    (0..plan.flows.len()).filter_map(rival).collect()
+}
+
+/// I(t) = the sum of σ + ⌊(t−1+J)/P⌋.
+pub fn interference(rivals: &[Rival], t: u32) -> u32 {
+    rivals.iter().map(|r| r.burst + (t - 1 + r.spread) / r.period).sum()
+}
+
+/// The least t from 1 to 65,535 with I(t) < t.
+pub fn least_window(rivals: &[Rival]) -> Option<i64> {
+    (1..=65_535).find(|&t| interference(rivals, t) < t).map(i64::from)
+}
+
+/// T of flow f.
+pub fn window(plan: &Plan, f: usize) -> Option<i64> {
+    least_window(&rivals(plan, f))
+}
+
+pub fn flight_bound(plan: &Plan, f: usize) -> i64 {
+    plan.dx(f) + plan.dy(f) + plan.dy(f) * plan.sx + 2
+}
+
+/// The longest wait of a packet offered with none waiting.
+pub fn lone_wait(plan: &Plan, f: usize, window: i64) -> i64 {
+    plan.flows[f].period + window - 2
+}
+
+fn plan_with_flow(file: &[u8], flow: u32) -> Result<(Plan, usize), Refusal> {
+    let (plan, _) = read(file)?;
+    let flow = flow as usize;
+    if flow < plan.flows.len() { Ok((plan, flow)) } else { refuse(12, 0) }
+}
+
+/// The window call: plan, 12, 14.
+pub fn window_call(file: &[u8], flow: u32) -> Result<u64, Refusal> {
+    let (plan, f) = plan_with_flow(file, flow)?;
+    match window(&plan, f) {
+        Some(t) => Ok(t as u64),
+        None => refuse(14, f),
+    }
+}
+
+/// The flight bound's call: plan, 12.
+pub fn flight_call(file: &[u8], flow: u32) -> Result<u64, Refusal> {
+    let (plan, f) = plan_with_flow(file, flow)?;
+    Ok(flight_bound(&plan, f) as u64)
+}
+
+/// What the listing prints for this file.
+pub fn listing(file: &[u8]) -> String {
+    let plan = match read(file) {
+        Ok((plan, _)) => plan,
+        Err(no) => return format!("refused {} {}\n", no.number, no.place),
+    };
+    let mut text = String::from("flow port window flight wait\n");
+    for f in 0..plan.flows.len() {
+        let port = if plan.port(f) == Port::East { 'E' } else { 'S' };
+        let (t, wait) = match window(&plan, f) {
+            Some(t) => (t.to_string(), lone_wait(&plan, f, t).to_string()),
+            None => ("-".to_string(), "-".to_string()),
+        };
+        text += &format!("{f} {port} {t} {} {wait}\n", flight_bound(&plan, f));
+    }
+    text
+}

@@ -1,0 +1,143 @@
+//! The longest wait of a lone packet (q = 0), by trying all lists of offers of a small plan.
+//! A packet that waits hinders nobody, so it is enough to offer one in the cycle in which it
+//! enters; only the packet whose wait is measured is offered early.
+
+use crate::book::{Book, Place};
+use crate::plan::Plan;
+use std::collections::HashMap;
+
+/// The flows offered before each step, from reset on, and the wait of the last packet of f.
+#[derive(Clone, Debug)]
+pub struct Worst {
+    pub wait: i64,
+    pub offers: Vec<Vec<u32>>,
+}
+
+/// What of a book decides its future: buckets, waiting packets, and the packets in their places.
+type Key = (Vec<(i64, i64)>, Vec<usize>, Vec<(Place, usize, i64)>);
+
+fn key(book: &Book) -> Key {
+    let buckets = book.buckets.iter().map(|bucket| (bucket.tokens, bucket.count)).collect();
+    let waiting = book.waiting.iter().map(|lines| lines.len()).collect();
+    let packet = |&line: &usize| {
+        let line = &book.lines[line];
+        (line.place.unwrap(), line.flow, line.d)
+    };
+    let mut packets: Vec<_> = book.placed.iter().map(packet).collect();
+    packets.sort();
+    (buckets, waiting, packets)
+}
+
+/// The book after one cycle in which exactly these flows enter. None where one of them can't.
+fn cycle(book: &Book, entering: &[u32]) -> Option<Book> {
+    if entering.iter().any(|&flow| book.buckets[flow as usize].tokens == 0) {
+        return None;
+    }
+    let mut next = book.clone();
+    for &flow in entering {
+        next.offer(flow).unwrap();
+    }
+    next.step(5 * next.plan.routers()).unwrap();
+    let entered = |&flow: &u32| next.entered[flow as usize] > book.entered[flow as usize];
+    if !entering.iter().all(entered) {
+        return None;
+    }
+    next.forget_exits();
+    Some(next)
+}
+
+/// All sets of flows.
+fn sets(flows: usize) -> Vec<Vec<u32>> {
+    let member = |set: u32, flow: &u32| set >> flow & 1 == 1;
+    (0..1u32 << flows)
+        .map(|set| (0..flows as u32).filter(|flow| member(set, flow)).collect())
+        .collect()
+}
+
+struct Search {
+    f: usize,
+    sets: Vec<Vec<u32>>,
+    /// For a book in which f waits: how long at worst, and what is offered in this cycle.
+    longest: HashMap<Key, (i64, Vec<u32>)>,
+}
+
+impl Search {
+    /// The cycles that f's waiting packet goes without entering, from this book on.
+    fn wait(&mut self, book: &Book) -> i64 {
+        let key = key(book);
+        if let Some((wait, _)) = self.longest.get(&key) {
+            return *wait;
+        }
+        let mut longest = (0, Vec::new());
+        for set in 0..self.sets.len() {
+            let Some(next) = cycle(book, &self.sets[set]) else {
+                continue;
+            };
+            if next.entered[self.f] == book.entered[self.f] {
+                let wait = 1 + self.wait(&next);
+                if wait > longest.0 {
+                    longest = (wait, self.sets[set].clone());
+                }
+            }
+        }
+        self.longest.insert(key, longest.clone());
+        longest.0
+    }
+}
+
+/// The longest wait of a lone packet of flow f over all lists from reset, and a list with it.
+pub fn worst_wait(plan: &Plan, f: usize) -> Worst {
+    let sets = sets(plan.flows.len());
+    let without_f: Vec<_> = sets.iter().filter(|set| !set.contains(&(f as u32))).cloned().collect();
+    let mut search = Search { f, sets: without_f, longest: HashMap::new() };
+    let mut worst = Worst { wait: -1, offers: Vec::new() };
+    // Every book that a list reaches, by breadth: the book, how it came about, and its key.
+    let mut books = vec![(Book::new(plan.clone()), 0, Vec::new())];
+    let mut seen = HashMap::from([(key(&books[0].0), 0)]);
+    let mut at = 0;
+    while at < books.len() {
+        let book = books[at].0.clone();
+        let mut offered = book.clone();
+        offered.offer(f as u32).unwrap();
+        let wait = search.wait(&offered);
+        if wait > worst.wait {
+            worst = Worst { wait, offers: list(&mut search, &books, at, offered) };
+        }
+        for set in &sets {
+            let Some(next) = cycle(&book, set) else {
+                continue;
+            };
+            seen.entry(key(&next)).or_insert_with(|| {
+                books.push((next, at, set.clone()));
+                books.len() - 1
+            });
+        }
+        at += 1;
+    }
+    worst
+}
+
+/// The offers of the list that leads to this book, then those that keep f waiting longest.
+fn list(
+    search: &mut Search,
+    books: &[(Book, usize, Vec<u32>)],
+    mut at: usize,
+    offered: Book,
+) -> Vec<Vec<u32>> {
+    let mut offers = Vec::new();
+    while at > 0 {
+        offers.push(books[at].2.clone());
+        at = books[at].1;
+    }
+    offers.reverse();
+    let mut book = offered;
+    let mut first = vec![search.f as u32];
+    while !book.waiting[search.f].is_empty() {
+        search.wait(&book);
+        let set = search.longest[&key(&book)].1.clone();
+        book = cycle(&book, &set).unwrap();
+        offers.push(first.into_iter().chain(set).collect());
+        first = Vec::new();
+    }
+    offers
+}
