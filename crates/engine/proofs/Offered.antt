@@ -1,15 +1,15 @@
 -- A tally with one more waiting, written over its flow's, leaves the words of the state after the offer. Rests on Stored.
 use mathlib.Core.Bool.{Bool, true, false, cond}
-use mathlib.Core.List.{List, [], _∷_}
+use mathlib.Core.List.{List}
 use mathlib.Core.Logic.{inl, inr}
 use mathlib.Core.Path.{_≡_, refl, ap, _∙_}
 use Prim.Native.Nat.{ℕ, suc, _+_, _≤_, _<_}
 use native.Mathlib.Decide.{ℕ-discrete}
 use native.Mathlib.Omega.{arith}
 use lib.Dec.{leb}
-use lib.ListN.{length, drop, set}
-use lib.Seq.{sets, length-sets, drop-set-lt, getD-set-same, getD-set-other}
-use Rattle.laws.proofs.Stands.{Stands, stands-other}
+use lib.ListN.{length}
+use lib.Seq.{length-sets, getD-set-same, getD-set-other}
+use Rattle.laws.proofs.Stands.{Stands, stands-other, drop-sets}
 use Rattle.flow.specs.Plan.{flowAt}
 use Rattle.state.specs.declared.Tally.{Tally}
 use Rattle.state.specs.Layout.{numberSize, flowPlace, routerPlace}
@@ -29,11 +29,6 @@ use Rattle.cycle.specs.Offer.{offerState}
 use Rattle.cycle.specs.Calls.{offerOn}
 use Rattle.engine.specs.Next.{offerNumber}
 use Rattle.engine.proofs.Stored.{words-part, numbers-stand, stored, stored-flow, stored-other}
-
--- what lies past a run of stores
-drop-sets : (l : List ℕ) (i : ℕ) (vs : List ℕ) (n : ℕ) → i + length vs ≤ n → drop n (sets l i vs) ≡ drop n l
-drop-sets l i [] n h = refl
-drop-sets l i (a ∷ vs) n h = drop-sets (set l i a) (suc i) vs n (omega arith) ∙ drop-set-lt n l i a (omega arith)
 
 module _ (w : List ℕ) (forms : stateNumber w ≡ 0) (f : ℕ) (below : f < countIn w) where
   abbrev s : State

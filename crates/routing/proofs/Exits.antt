@@ -9,7 +9,7 @@ use lib.ListN.{length, length-append}
 use lib.Seq.{sets}
 use Rattle.laws.specs.Bounded.{sumBelow}
 use Rattle.laws.specs.Count.{one, joinBelow}
-use Rattle.laws.proofs.Stores.{sets-append}
+use Rattle.laws.proofs.Stands.{sets-append}
 use Rattle.laws.specs.Turns.{turns}
 use Rattle.laws.proofs.Turns.{turns-none, turns-more}
 use Rattle.laws.proofs.Sum.{sum-none, sum-more, sum-most}

@@ -15,24 +15,20 @@ use Rattle.laws.proofs.Turns.{turns-keep, turns-fill}
 use Rattle.torus.specs.Ring.{next, previous}
 use Rattle.torus.proofs.Ring.{next-below, next-one, next-previous, previous-below}
 use Rattle.state.specs.declared.Register.{Register}
-use Rattle.state.specs.declared.Register.the-variants.{Empty, Packet}
 use Rattle.state.specs.Layout.{registerSize, routerSize}
 use Rattle.state.specs.Words.{registerWords}
+use Rattle.state.proofs.Words.{length-register}
 use Rattle.routing.specs.Walk.{cellPlace, push}
-
-four : (r : Register) → length (registerWords r) ≡ registerSize
-four Empty = refl
-four (Packet flow serial entry deflections) = refl
 
 -- two registers that don't meet
 abbrev Apart : (at i : ℕ) → Type 0
 Apart at i = (at + registerSize ≤ i) ⊎ (i + registerSize ≤ at)
 
 other : (l : List ℕ) (at i : ℕ) (r q : Register) → Apart at i → Stands 0 l at (registerWords r) → Stands 0 (sets l i (registerWords q)) at (registerWords r)
-other l at i r q h s = stands-other 0 l at (registerWords r) i (registerWords q) s (rw (four r, four q) h)
+other l at i r q h s = stands-other 0 l at (registerWords r) i (registerWords q) s (rw (length-register r, length-register q) h)
 
 put : (l : List ℕ) (at : ℕ) (r : Register) → at + registerSize ≤ length l → Stands 0 (sets l at (registerWords r)) at (registerWords r)
-put l at r h = stands-sets 0 l at (registerWords r) (rw (four r) h)
+put l at r h = stands-sets 0 l at (registerWords r) (rw (length-register r) h)
 
 module _ (base : ℕ) where
   wests : (i k : ℕ) → i ≢ k → Apart (base + routerSize * i) (base + routerSize * k)
@@ -132,7 +128,7 @@ module _ (base sx sy : ℕ) (east south : ℕ → ℕ → Register) where
       let n = all-fill l o (previous sy y) (previous-below sy y k) x h .1 in
       stands-append 0 _ (registerWords (east (previous sx x) y)) (registerWords (south x (previous sy y))) _
       (rw (next-previous sx x h) at w)
-      (rw (four (east (previous sx x) y)) (rw (next-previous sy y k) at n))
+      (rw (length-register (east (previous sx x) y)) (rw (next-previous sy y k) at n))
 
   -- what lies before the registers stays
   pub pushed-before : (l : List ℕ) (at : ℕ) (b : List ℕ) → at + length b ≤ base → Stands 0 l at b → Stands 0 (pushAll l) at b

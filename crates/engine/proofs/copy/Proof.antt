@@ -7,7 +7,7 @@ use native.Mathlib.Omega.{arith}
 use borrow.Author.Needs.{needs}
 use lib.ListN.{length, getD, set, take, length-set}
 use lib.Seq.{sets, length-take-le, take-suc}
-use Rattle.laws.proofs.Stores.{sets-append}
+use Rattle.laws.proofs.Stands.{sets-append}
 use Rattle.state.proofs.Over.{over-sets}
 use Rattle.engine.proofs.copy.Statement.{statement}
 use Rattle.engine.proofs.copy.Tie as tie
