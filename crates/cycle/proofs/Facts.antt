@@ -1,41 +1,31 @@
 -- What the words of a state give to one cycle: room, flows in range, few deflections. Rests on the facts of state.
-use mathlib.Core.Bool.{Bool, true, false, cond, _&&_}
+use mathlib.Core.Bool.{true, _&&_}
 use mathlib.Core.List.{List}
-use mathlib.Core.Path.{_≡_, refl, sym, ap, _∙_}
-use Prim.Native.Nat.{ℕ, zero, suc, _+_, _-_, _*_, _≤_, _<_}
+use mathlib.Core.Path.{_≡_, refl}
+use Prim.Native.Nat.{ℕ, _+_, _-_, _*_, _≤_, _<_}
 use native.Mathlib.Nat.{mul-le-mul}
 use native.Mathlib.Omega.{arith}
 use borrow.Author.Tests.{leb-true}
 use lib.Dec.{leb, eqb}
-use lib.ListN.{length, getD, set}
-use Rattle.laws.specs.Grid.{cellIndex}
-use Rattle.laws.proofs.Grid.{cell-below}
+use lib.ListN.{length}
 use Rattle.laws.proofs.Cases.{and-true}
-use Rattle.torus.specs.Ring.{offset}
 use Rattle.torus.proofs.Ring.{offset-below}
 use Rattle.flow.specs.declared.Flow.{Flow}
-use Rattle.flow.specs.declared.Port.{Port}
-use Rattle.flow.specs.declared.Port.the-variants.{East, South}
-use Rattle.flow.specs.Offsets.{ΔX, ΔY, portOf}
+use Rattle.flow.specs.Offsets.{ΔX, ΔY}
 use Rattle.flow.specs.Plan.{flowAt, FlowOk}
 use Rattle.book.specs.Line.{Place, W, N}
 use Rattle.book.specs.InPlace.{inPlace, inNorth, rowsDone}
 use Rattle.state.specs.declared.Register.{Register}
 use Rattle.state.specs.declared.Register.the-variants.{Empty, Packet}
-use Rattle.state.specs.Layout.{registerSize, routerSize, flowSize, flowPlace}
+use Rattle.state.specs.Layout.{registerSize, routerSize, flowPlace}
 use Rattle.state.specs.State.{tallyAt, cellAt}
 use Rattle.state.specs.Words.{flowOf}
-use Rattle.state.specs.Read.{sxIn, syIn, countIn, clockIn, flowIn, registerIn, routerIn, planIn, stateOf}
+use Rattle.state.specs.Read.{sxIn, syIn, countIn, clockIn, flowIn, registerIn, routerIn, stateOf}
 use Rattle.state.specs.Forms.{registerFits, sizeIn}
-use Rattle.state.proofs.Forms.{HeaderFacts, FlowFacts, TallyFacts, PacketFacts, StateFacts, packet-facts}
-use Rattle.state.proofs.View.{view-count, view-flow, view-tally, view-cell}
+use Rattle.state.proofs.Forms.{TallyFacts, StateFacts, packet-facts}
+use Rattle.state.proofs.View.{view-flow, view-tally, view-cell}
 use Rattle.state.proofs.Words.{router-below}
-use Rattle.cycle.specs.Router.{turnsSouth, deflected, firstOf, sentEast, sentSouth}
-use Rattle.cycle.specs.Entry.{enters, isPort, clientSends}
-use Rattle.cycle.specs.Step.{eastward, southward}
-use Rattle.cycle.specs.Walk.{entrant, Entrants, sendsBy}
 use Rattle.cycle.specs.Bounds.{deflectionsOf}
-use Rattle.cycle.proofs.Entrant.{xsOf, ysOf, entrants-mark, client-walk, entrant-below}
 
 module _ (w : List ℕ) (s : StateFacts w) where
   -- a router's registers lie in the memory
@@ -62,34 +52,6 @@ module _ (w : List ℕ) (s : StateFacts w) where
   unfolding stateOf
   tally-ok f h = rw (view-tally w f h, view-flow w f h) (s .flow f h .tally)
 
-  -- a router has a place among the entrants
-  pub entrant-fits : (n : ℕ) (l : List ℕ) → Entrants (stateOf w) n l → (x y : ℕ) → x < sxIn w → y < syIn w → cellIndex (sxIn w) x y < length l
-  unfolding stateOf planIn
-  entrant-fits n l e x y h k =
-      let room = e .room in
-      omega (arith, cell-below (sxIn w) (syIn w) x y h k)
-
-  pub entrant-found : (n : ℕ) (l : List ℕ) → Entrants (stateOf w) n l → (x y : ℕ) → x < sxIn w → y < syIn w
-      → getD l (cellIndex (sxIn w) x y) 0 ≡ entrant (stateOf w) x y n
-  unfolding stateOf planIn
-  entrant-found n l e x y h k = e .at x y h k
-
-  -- the place of flow f's client among the entrants
-  module _ (f : ℕ) (below : f < countIn w) (l : List ℕ) (e : Entrants (stateOf w) f l)
-      (φ : Flow) (flow : φ ≡ flowAt ((stateOf w) .plan) f) (i : ℕ) (index : i ≡ cellIndex (sxIn w) (φ .xs) (φ .ys)) where
-    client : i ≡ cellIndex (sxIn w) (xsOf (stateOf w) f) (ysOf (stateOf w) f)
-    client = index ∙ rw flow
-
-    pub client-fits : i < length l
-    client-fits = rw client (entrant-fits f l e _ _ (flow-ok f below .xs-on) (flow-ok f below .ys-on))
-
-    pub client-found : getD l i 0 ≡ entrant (stateOf w) (xsOf (stateOf w) f) (ysOf (stateOf w) f) f
-    client-found = rw client (entrant-found f l e _ _ (flow-ok f below .xs-on) (flow-ok f below .ys-on))
-
-    pub client-marked : enters (stateOf w) f ≡ true → Entrants (stateOf w) (f + 1) (set l i (f + 1))
-    unfolding stateOf planIn
-    client-marked yes′ = rw client (entrants-mark (stateOf w) f l (flow-ok f below .xs-on) (flow-ok f below .ys-on) yes′ e)
-
   -- the flow of a register's packet is one of the plan
   flow-below : (place : Place) (at : ℕ) → registerFits w place at ≡ true → flowOf (registerIn w at) < countIn w
   flow-below place at e = of (registerIn w at) refl
@@ -97,29 +59,6 @@ module _ (w : List ℕ) (s : StateFacts w) where
       of : (r : Register) → registerIn w at ≡ r → flowOf r < countIn w
       of Empty q = s .header .count-least
       of (Packet flow serial entry deflections) q = packet-facts w place at e flow serial entry deflections q .flow-below
-
-  either : (a b : Register) (t : Bool) → flowOf a < countIn w → flowOf b < countIn w → flowOf (cond t a b) < countIn w
-  either a b true p q = p
-  either a b false p q = q
-
-  first : (a b : Register) → flowOf a < countIn w → flowOf b < countIn w → flowOf (firstOf a b) < countIn w
-  first Empty b p q = q
-  first (Packet flow serial entry deflections) b p q = p
-
-  once : (a : Register) → flowOf a < countIn w → flowOf (deflected a) < countIn w
-  once Empty p = p
-  once (Packet flow serial entry deflections) p = p
-
-  -- a client's packet is of a flow of the plan
-  sends-flow : (port : Port) (e : ℕ) → e ≤ countIn w → flowOf (sendsBy (stateOf w) port e) < countIn w
-  unfolding sendsBy
-  sends-flow port zero h = s .header .count-least
-  sends-flow port (suc f) h = either _ _ (isPort port (portOf ((stateOf w) .plan .sx) (flowAt ((stateOf w) .plan) f))) h (s .header .count-least)
-
-  client-flow : (x y : ℕ) (port : Port) → flowOf (clientSends (stateOf w) x y port) < countIn w
-  unfolding stateOf
-  client-flow x y port =
-      rw (client-walk (stateOf w) x y port _, view-count w) (sends-flow port _ (entrant-below (stateOf w) x y (countIn w)))
 
   module _ (x y : ℕ) (h : x < sxIn w) (k : y < syIn w) where
     pub west-flow : flowOf ((cellAt (stateOf w) x y) .west) < countIn w
@@ -151,16 +90,3 @@ module _ (w : List ℕ) (s : StateFacts w) where
         of (Packet flow serial entry deflections) q =
             let p = packet-facts w (N x y) at (s .north x y h k) flow serial entry deflections q in
             few (flowIn w (flowPlace flow)) deflections (clockIn w - entry) (s .flow flow (p .flow-below) .numbers) (p .in-place)
-
-    -- the flow of what a router sends is one of the plan
-    pub south-sent : flowOf (southward (stateOf w) x y) < countIn w
-    unfolding southward sentSouth stateOf
-    south-sent = either _ _ (turnsSouth ((stateOf w) .plan) x ((cellAt (stateOf w) x y) .west)) west-flow (first ((cellAt (stateOf w) x y) .north) (clientSends (stateOf w) x y South) north-flow (client-flow x y South))
-
-    pub east-sent : flowOf (eastward (stateOf w) x y) < countIn w
-    unfolding eastward sentEast stateOf
-    east-sent = either _ _ (turnsSouth ((stateOf w) .plan) x ((cellAt (stateOf w) x y) .west)) (once ((cellAt (stateOf w) x y) .north) north-flow)
-        (first ((cellAt (stateOf w) x y) .west) (clientSends (stateOf w) x y East) west-flow (client-flow x y East))
-
-    pub south-reaches : (exit : Bool) → flowOf (cond exit Empty (southward (stateOf w) x y)) < countIn w
-    south-reaches exit = either Empty (southward (stateOf w) x y) exit (s .header .count-least) south-sent

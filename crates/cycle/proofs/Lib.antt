@@ -1,8 +1,2 @@
--- The laws of the cycle.
-pub mod Entrant
+-- What a state's words give to a cycle.
 pub mod Facts
-pub mod Exits
-pub mod Stored
-pub mod Offered
-pub mod Push
-pub mod Next

@@ -5,5 +5,3 @@ pub mod Step
 pub mod Offer
 pub mod Calls
 pub mod Bounds
-pub mod Walk
-pub mod Sent

@@ -9,7 +9,7 @@ use Rattle.laws.specs.Grid.{grid}
 use Rattle.torus.specs.Ring.{previous}
 use Rattle.flow.specs.declared.Flow.{Flow}
 use Rattle.flow.specs.declared.Port.the-variants.{East, South}
-use Rattle.flow.specs.Plan.{Plan, flowAt}
+use Rattle.flow.specs.Plan.{flowAt}
 use Rattle.bucket.specs.Regulator.{afterCycle}
 use Rattle.state.specs.declared.Register.{Register}
 use Rattle.state.specs.declared.Register.the-variants.{Empty, Packet}

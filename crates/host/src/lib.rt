@@ -75,7 +75,7 @@ pub extern "C" fn hrt_write(state: &[u32], notes: &[u8], target: &mut [u8]) -> u
 pub extern "C" fn hrt_offer(state: &mut [u32], flow: u32) -> u64
     ensures { λ r. ⌜ said r (now (state .exit)) ≡ saidOf (offerOn (now (state .entry)) flow) ⌝ }
 {
-    answer_word(cycle::offer(state, flow))
+    answer_word(engine::offer(state, flow))
 }
 
 // One cycle, and its exits.
@@ -83,5 +83,5 @@ pub extern "C" fn hrt_offer(state: &mut [u32], flow: u32) -> u64
 pub extern "C" fn hrt_step(state: &mut [u32], delivery: &mut [u32]) -> u64
     ensures { λ r. ⌜ saidStep r (now (state .exit)) (now (delivery .exit)) ≡ saidOfStep (stepOn (now (state .entry)) (now (delivery .entry))) ⌝ }
 {
-    answer_word(cycle::step(state, delivery))
+    answer_word(engine::step(state, delivery))
 }

@@ -7,6 +7,5 @@ pub mod Keep
 pub mod Parts
 pub mod Stands
 pub mod Grid
-pub mod Stores
 pub mod Turns
 pub mod Written

@@ -8,7 +8,7 @@ use native.Mathlib.Decide.{decLt}
 use native.Mathlib.Numerals.{add-one}
 use native.Mathlib.Omega.{arith}
 use lib.ListN.{length, getD, take, drop, set, length-append, length-set, take-append-drop, List·getD-append}
-use lib.Seq.{sets, length-sets, ext-getD, getD-take, getD-append-add, getD-set-same, getD-set-other, length-take-le}
+use lib.Seq.{sets, length-sets, ext-getD, getD-take, getD-append-add, getD-set-same, getD-set-other, drop-set-lt, length-take-le}
 use Rattle.laws.specs.Bounded.{tabulate}
 use Rattle.laws.specs.Count.{joinBelow}
 use Rattle.laws.proofs.Bounded.{length-tabulate, getD-tabulate}
@@ -40,6 +40,11 @@ module _ {A : Type 0} where
   sets-append l i (x ∷ a) b =
       let e : i + suc (length a) ≡ suc i + length a = omega arith in
       rw e (sets-append (set l i x) (suc i) a b)
+
+  -- what lies past a run of stores
+  pub drop-sets : (l : List A) (i : ℕ) (a : List A) (n : ℕ) → i + length a ≤ n → drop n (sets l i a) ≡ drop n l
+  drop-sets l i [] n h = refl
+  drop-sets l i (x ∷ a) n h = drop-sets (set l i x) (suc i) a n (omega arith) ∙ drop-set-lt n l i x (omega arith)
 
   -- a loop that writes parts of one length, one behind the other: one turn more
   pub sets-more : (c n : ℕ) (f : ℕ → List A) (long : (i : ℕ) → length (f i) ≡ c) (l m : List A) (base : ℕ)

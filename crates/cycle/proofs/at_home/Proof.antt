@@ -1,5 +1,4 @@
 -- `at_home`: the definition's own cases.
-use mathlib.Core.Path.{_≡_}
 use borrow.Author.Needs.{needs}
 use borrow.Author.Tests.{eq-eqb, ne-eqb}
 use Rattle.cycle.specs.Router.{atHome}

@@ -1,5 +1,5 @@
 -- `router_index`: with at most 16 columns and rows the index is below 256.
-use Prim.Native.Nat.{ℕ, suc, _*_, _≤_, _<_}
+use Prim.Native.Nat.{ℕ, _*_, _≤_, _<_}
 use native.Mathlib.Nat.{mul-le-mul}
 use native.Mathlib.Omega.{arith}
 use Rattle.cycle.proofs.router_index.Statement.{statement}

@@ -1,5 +1,4 @@
 -- `turns_south`: the definition's own cases.
-use mathlib.Core.Path.{_≡_}
 use borrow.Author.Needs.{needs}
 use Rattle.cycle.specs.Router.{turnsSouth}
 use Rattle.cycle.proofs.turns_south.Statement.{statement}

@@ -1,0 +1,4 @@
+-- The laws of the engine.
+pub mod Stored
+pub mod Offered
+pub mod Next

@@ -1,0 +1,48 @@
+-- `offer`: a refusal by the state's number or the offer's, or one more waiting.
+use mathlib.Core.Path.{_≡_, sym, _∙_}
+use mathlib.Core.List.{List}
+use Prim.Native.Nat.{ℕ, _<_}
+use borrow.Author.Needs.{needs}
+use borrow.Author.Tests.{leb-false}
+use Rattle.laws.proofs.Cases.{passed}
+use Rattle.state.specs.Read.{countIn}
+use Rattle.state.proofs.Forms.{state-facts}
+use Rattle.state.proofs.Over.{unless-passes, unless-refuses}
+use Rattle.engine.specs.Next.{offerNumber}
+use Rattle.engine.proofs.Offered.{offer-unless}
+use Rattle.engine.proofs.offer.Statement.{statement}
+use Rattle.engine.proofs.offer.Tie as tie
+
+-- the flow is one of the plan where 12 isn't given
+named : (w : List ℕ) (f : ℕ) → offerNumber w f ≡ 0 → f < countIn w
+unfolding offerNumber
+named w f e = leb-false _ _ (passed _ 11 _ e .0)
+
+returns : tie.Need-returns
+returns c = rw (offer-unless, ← (c .before .state-number .ensures)) (unless-refuses _ _ _ (c .if1 .taken))
+
+offer-number-requires : tie.Need-offer-number-requires
+offer-number-requires c κs = state-facts _ (sym (c .before .before .state-number .ensures) ∙ c .before .if1 .left)
+
+returns-2 : tie.Need-returns-2
+returns-2 c =
+    rw (offer-unless, ← (c .before .before .before .before .state-number .ensures), ← (c .before .offer-number .ensures))
+    (unless-refuses _ _ _ (c .if2 .taken) ∙ unless-passes _ _ _ (c .before .before .before .if1 .left))
+
+wait-more-requires : tie.Need-wait-more-requires
+wait-more-requires c κs = (
+  sym (c .before .before .before .before .before .state-number .ensures) ∙ c .before .before .before .before .if1 .left,
+  named _ _ (sym (c .before .before .offer-number .ensures) ∙ c .before .if2 .left),
+)
+
+returns-3 : tie.Need-returns-3
+returns-3 c =
+    let at = c .before .before in
+    let number = at .before .before .before in
+    let first = number .before .before .before in
+    rw (at .wait-more .ensures, offer-unless, ← (first .state-number .ensures), ← (number .offer-number .ensures))
+    (unless-passes _ _ _ (at .before .before .if2 .left) ∙ unless-passes _ _ _ (number .before .before .if1 .left))
+
+pub offer-spec : {M : Type 1} → statement M
+offer-spec =
+    tie.close (tie.spec (λ c κs. search needs) (λ c. search needs) returns offer-number-requires (λ c. search needs) returns-2 wait-more-requires (λ c. search needs) returns-3)

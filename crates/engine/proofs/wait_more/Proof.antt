@@ -1,0 +1,34 @@
+-- `wait_more`: the flow's tally, with one more waiting.
+use mathlib.Core.Path.{_∙_}
+use borrow.Author.Needs.{needs}
+use native.Mathlib.Omega.{arith}
+use Rattle.state.proofs.Forms.{state-facts}
+use Rattle.cycle.proofs.Facts.{tally-ok}
+use Rattle.engine.proofs.Offered.{offered-over}
+use Rattle.engine.proofs.wait_more.Statement.{statement}
+use Rattle.engine.proofs.wait_more.Tie as tie
+
+tally-at-requires : tie.Need-tally-at-requires
+tally-at-requires c κs = let p = c .before .before .pre in (state-facts _ (p .0), p .1)
+
+add-t8 : tie.Need-add-t8
+add-t8 c =
+    let start = c .before .before .before .before .before in
+    let ok = tally-ok _ (state-facts _ (start .pre .0)) (start .args .f) (start .pre .1) in
+    rw (c .before .before .tally-at .ensures) (omega arith)
+
+put-tally-requires : tie.Need-put-tally-requires
+put-tally-requires c κs =
+    let start = c .before .before .before .before .before .before in
+    let s = state-facts _ (start .pre .0) in
+    omega (arith, s .long, start .pre .1)
+
+returns : tie.Need-returns
+returns c =
+    let start = c .before .before .before .before .before .before .before .before .before in
+    c .before .before .put-tally .ensures
+    ∙ rw (c .before .before .before .before .before .before .tally-at .ensures) (offered-over _ (start .pre .0) (start .args .f) (start .pre .1))
+
+pub wait-more-spec : {M : Type 1} → statement M
+wait-more-spec =
+    tie.close (tie.spec tally-at-requires add-t8 (λ c. search needs) (λ c. search needs) put-tally-requires (λ c. search needs) returns)

@@ -1,0 +1,46 @@
+-- The entrants of a state's clients, in the order of its routers. Rests on Entrant and the facts of a state.
+use mathlib.Core.Bool.{true}
+use mathlib.Core.List.{List}
+use mathlib.Core.Path.{_≡_, _∙_}
+use Prim.Native.Nat.{ℕ, _+_, _<_}
+use native.Mathlib.Omega.{arith}
+use lib.ListN.{length, getD, set}
+use Rattle.laws.specs.Grid.{cellIndex}
+use Rattle.laws.proofs.Grid.{cell-below}
+use Rattle.flow.specs.declared.Flow.{Flow}
+use Rattle.flow.specs.Plan.{flowAt}
+use Rattle.state.specs.Read.{sxIn, syIn, countIn, planIn, stateOf}
+use Rattle.state.proofs.Forms.{StateFacts}
+use Rattle.cycle.specs.Entry.{enters}
+use Rattle.entry.specs.Entrants.{entrant, Entrants}
+use Rattle.entry.proofs.Entrant.{xsOf, ysOf, entrants-mark}
+use Rattle.cycle.proofs.Facts.{flow-ok}
+
+module _ (w : List ℕ) (s : StateFacts w) where
+  -- a router has a place among the entrants
+  pub entrant-fits : (n : ℕ) (l : List ℕ) → Entrants (stateOf w) n l → (x y : ℕ) → x < sxIn w → y < syIn w → cellIndex (sxIn w) x y < length l
+  unfolding stateOf planIn
+  entrant-fits n l e x y h k =
+      let room = e .room in
+      omega (arith, cell-below (sxIn w) (syIn w) x y h k)
+
+  pub entrant-found : (n : ℕ) (l : List ℕ) → Entrants (stateOf w) n l → (x y : ℕ) → x < sxIn w → y < syIn w
+      → getD l (cellIndex (sxIn w) x y) 0 ≡ entrant (stateOf w) x y n
+  unfolding stateOf planIn
+  entrant-found n l e x y h k = e .at x y h k
+
+  -- the place of flow f's client among the entrants
+  module _ (f : ℕ) (below : f < countIn w) (l : List ℕ) (e : Entrants (stateOf w) f l)
+      (φ : Flow) (flow : φ ≡ flowAt ((stateOf w) .plan) f) (i : ℕ) (index : i ≡ cellIndex (sxIn w) (φ .xs) (φ .ys)) where
+    client : i ≡ cellIndex (sxIn w) (xsOf (stateOf w) f) (ysOf (stateOf w) f)
+    client = index ∙ rw flow
+
+    pub client-fits : i < length l
+    client-fits = rw client (entrant-fits f l e _ _ (flow-ok w s f below .xs-on) (flow-ok w s f below .ys-on))
+
+    pub client-found : getD l i 0 ≡ entrant (stateOf w) (xsOf (stateOf w) f) (ysOf (stateOf w) f) f
+    client-found = rw client (entrant-found f l e _ _ (flow-ok w s f below .xs-on) (flow-ok w s f below .ys-on))
+
+    pub client-marked : enters (stateOf w) f ≡ true → Entrants (stateOf w) (f + 1) (set l i (f + 1))
+    unfolding stateOf planIn
+    client-marked yes′ = rw client (entrants-mark (stateOf w) f l (flow-ok w s f below .xs-on) (flow-ok w s f below .ys-on) yes′ e)

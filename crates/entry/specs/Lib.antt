@@ -1,0 +1,2 @@
+-- Who enters, as the walk finds it.
+pub mod Entrants

@@ -1,0 +1,4 @@
+-- The laws of the walk over the routers.
+pub mod Flows
+pub mod Push
+pub mod Exits

@@ -1,0 +1,3 @@
+-- What the walk over the routers leaves.
+pub mod Walk
+pub mod Sent

@@ -1,0 +1,59 @@
+-- What the walk over the routers leaves. Only promises of inner functions name these; proofs/ ties them to the definitions of Step.
+use mathlib.Core.Bool.{cond}
+use mathlib.Core.List.{List}
+use Prim.Native.Nat.{ℕ, _+_, _*_}
+use lib.Seq.{sets}
+use Rattle.laws.specs.Bounded.{sumBelow}
+use Rattle.laws.specs.Count.{one, joinBelow}
+use Rattle.laws.specs.Grid.{cellIndex}
+use Rattle.laws.specs.Turns.{turns}
+use Rattle.torus.specs.Ring.{next}
+use Rattle.state.specs.declared.Register.{Register}
+use Rattle.state.specs.declared.Register.the-variants.{Empty}
+use Rattle.state.specs.Layout.{registerSize, routerSize}
+use Rattle.state.specs.State.{State}
+use Rattle.state.specs.Words.{registerWords}
+use Rattle.state.specs.Read.{sxIn, syIn, routerIn, stateOf}
+use Rattle.cycle.specs.Step.{eastward, southward, exits, delivered}
+
+-- where the registers of the router in column x and row y stand, with the first at `base`
+abbrev pub cellPlace : (base sx x y : ℕ) → ℕ
+cellPlace base sx x y = base + routerSize * cellIndex sx x y
+
+-- the words l, after the router in column x and row y has sent these E and S
+abbrev pub push : (base sx sy : ℕ) → (east south : Register) → (x y : ℕ) → List ℕ → List ℕ
+push base sx sy east south x y l =
+    sets (sets l (cellPlace base sx (next sx x) y) (registerWords east))
+    (cellPlace base sx x (next sy y) + registerSize)
+    (registerWords south)
+
+-- what reaches the N register to the south: nothing if it exits
+abbrev pub reaches : State → (x y : ℕ) → Register
+reaches s x y = cond (exits s x y) Empty (southward s x y)
+
+-- the words l, after the router in column x and row y of the state with words w has sent this E, or S
+unfoldable pub pushEast : (w : List ℕ) → (x y : ℕ) → Register → List ℕ → List ℕ
+pushEast w x y east l = sets l (routerIn w (next (sxIn w) x) y) (registerWords east)
+
+unfoldable pub pushSouth : (w : List ℕ) → (x y : ℕ) → Register → List ℕ → List ℕ
+pushSouth w x y south l = sets l (routerIn w x (next (syIn w) y) + registerSize) (registerWords south)
+
+-- after all that this router sends
+unfoldable pub pushed : (w : List ℕ) → (x y : ℕ) → List ℕ → List ℕ
+pushed w x y l =
+    let s = stateOf w in
+    pushSouth w x y (reaches s x y) (pushEast w x y (eastward s x y) l)
+
+-- after a row's routers, and after all
+unfoldable pub pushedRow : (w : List ℕ) → (y : ℕ) → List ℕ → List ℕ
+pushedRow w y l = turns (sxIn w) (λ x. pushed w x y) l
+
+unfoldable pub pushedAll : (w : List ℕ) → List ℕ → List ℕ
+pushedAll w l = turns (syIn w) (pushedRow w) l
+
+-- how many packets exit in row y, and what its routers deliver
+unfoldable pub rowExits : (w : List ℕ) → (y : ℕ) → ℕ
+rowExits w y = sumBelow (sxIn w) (λ x. one (exits (stateOf w) x y))
+
+unfoldable pub rowDelivers : (w : List ℕ) → (y : ℕ) → List ℕ
+rowDelivers w y = joinBelow (sxIn w) (λ x. delivered (stateOf w) x y)

@@ -1,0 +1,232 @@
+// One walk over the routers: next registers, deliveries and their count. Rests on cycle and entry.
+use flow::Port;
+use state::Register;
+ghost use mathlib.Core.Path.{_≡_};
+ghost use mathlib.Core.Bool.{cond};
+ghost use mathlib.Core.List.{[]};
+ghost use Prim.Native.Nat.{_+_, _*_, _<_, _≤_};
+ghost use lib.ListN.{length};
+ghost use lib.Seq.{sets};
+ghost use Rattle.laws.specs.Count.{one};
+ghost use Rattle.laws.specs.Turns.{turns};
+ghost use Rattle.state.specs.declared.Register.the-variants.{Empty};
+ghost use Rattle.state.specs.Words.{flowOf};
+ghost use Rattle.state.specs.Read.{sxIn, syIn, countIn, clockIn, stateOf};
+ghost use Rattle.state.specs.Forms.{sizeIn};
+ghost use Rattle.state.proofs.Forms.{StateFacts};
+ghost use Rattle.entry.specs.Entrants.{entrant, Entrants};
+ghost use Rattle.routing.specs.Walk.{pushEast, pushSouth, pushed, pushedRow, pushedAll, rowExits, rowDelivers};
+ghost use Rattle.routing.specs.Sent.{sentBy, sentAt};
+ghost use Rattle.cycle.specs.Step.{exits, exitWords, delivered, stepDelivers};
+ghost use Rattle.cycle.specs.Calls.{exitCount};
+
+// What is sent by the two outputs of a router.
+struct Sent {
+    east: Register,
+    south: Register,
+}
+
+// What a client sends, by its entrant: the number + 1 of the flow that enters, or 0.
+fn client_sends(state: &[u32], who: u32) -> Sent
+    requires { ⌜ StateFacts (now state) ⌝ }
+    requires { ⌜ (who ≤ countIn (now state)) × (clockIn (now state) < 4294967295) ⌝ }
+    ensures { λ r. ⌜ r ≡ sentBy (stateOf (now (state .entry))) who ⌝ }
+{
+    let none = Register::Empty;
+    if who == 0 {
+        return Sent {
+            east: none,
+            south: none,
+        };
+    }
+    let f = who - 1;
+    let flow = cycle::flow_at(state, f);
+    let tally = cycle::tally_at(state, f);
+    let packet = Register::Packet {
+        flow: f,
+        serial: tally.entered + 1,
+        entry: state[3],
+        deflections: 0,
+    };
+    let port = flow.port(state[0]);
+    match port {
+        Port::East => Sent {
+            east: packet,
+            south: none,
+        },
+        Port::South => Sent {
+            east: none,
+            south: packet,
+        },
+    }
+}
+
+// What the router in column x and row y sends, with its client's entrant.
+fn router_sends(state: &[u32], x: u32, y: u32, who: u32) -> Sent
+    requires { ⌜ StateFacts (now state) ⌝ }
+    requires { ⌜ (x < sxIn (now state)) × ((y < syIn (now state)) × (clockIn (now state) < 4294967295)) ⌝ }
+    requires { ⌜ who ≡ entrant (stateOf (now state)) x y (countIn (now state)) ⌝ }
+    ensures { λ r. ⌜ r ≡ sentAt (stateOf (now (state .entry))) x y ⌝ }
+{
+    let cell = cycle::cell_at(state, x, y);
+    let west = cell.west;
+    let north = cell.north;
+    let turns = cycle::turns_south(state, x, west);
+    let client = client_sends(state, who);
+    let by_east = client.east;
+    let by_south = client.south;
+    let east = cycle::sent_east(turns, west, north, by_east);
+    let south = cycle::sent_south(turns, west, north, by_south);
+    Sent { east, south }
+}
+
+// What the router in column x and row y sends, with the entrants of all clients.
+fn sent_at(state: &[u32], x: u32, y: u32, entrants: &[u32]) -> Sent
+    requires { ⌜ StateFacts (now state) ⌝ }
+    requires { ⌜ (x < sxIn (now state)) × ((y < syIn (now state)) × (clockIn (now state) < 4294967295)) ⌝ }
+    requires { ⌜ Entrants (stateOf (now state)) (countIn (now state)) (now entrants) ⌝ }
+    ensures { λ r. ⌜ r ≡ sentAt (stateOf (now (state .entry))) x y ⌝ }
+{
+    let client = cycle::router_index(state[0], x, y);
+    router_sends(state, x, y, entrants[client])
+}
+
+// Writes what goes E to the W register to the east.
+fn push_east(state: &[u32], x: u32, y: u32, east: Register, next: &mut [u32])
+    requires { ⌜ StateFacts (now state) ⌝ }
+    requires { ⌜ (x < sxIn (now state)) × (y < syIn (now state)) ⌝ }
+    requires { ⌜ (flowOf east < countIn (now state)) × (sizeIn (now state) ≤ length (now next)) ⌝ }
+    ensures { λ _. ⌜ now (next .exit) ≡ pushEast (now (state .entry)) x y east (now (next .entry)) ⌝ }
+{
+    let at = cycle::router_place(state, torus::next(state[0], x), y);
+    state::put_register(next, at, east);
+}
+
+// Writes what goes S, and doesn't exit, to the N register to the south.
+fn push_south(state: &[u32], x: u32, y: u32, south: Register, next: &mut [u32])
+    requires { ⌜ StateFacts (now state) ⌝ }
+    requires { ⌜ (x < sxIn (now state)) × (y < syIn (now state)) ⌝ }
+    requires { ⌜ (flowOf south < countIn (now state)) × (sizeIn (now state) ≤ length (now next)) ⌝ }
+    ensures { λ _. ⌜ now (next .exit) ≡ pushSouth (now (state .entry)) x y south (now (next .entry)) ⌝ }
+{
+    let at = cycle::router_place(state, x, torus::next(state[1], y));
+    state::put_register(next, at + 4, south);
+}
+
+// What is left of a packet that goes S.
+fn unless_exits(exits: bool, south: Register) -> Register
+    ensures { λ r. ⌜ r ≡ cond exits Empty south ⌝ }
+{
+    if exits {
+        return Register::Empty;
+    }
+    south
+}
+
+// Writes the five words of a packet that exits.
+fn put_exit(delivery: &mut [u32], at: usize, r: Register, clock: u32)
+    requires { ⌜ at + 5 ≤ length (now delivery) ⌝ }
+    ensures { λ _. ⌜ now (delivery .exit) ≡ sets (now (delivery .entry)) at (exitWords clock r) ⌝ }
+{
+    match r {
+        Register::Empty => {}
+        Register::Packet {
+            flow,
+            serial,
+            entry,
+            deflections,
+        } => {
+            delivery[at] = flow;
+            delivery[at + 1] = serial;
+            delivery[at + 2] = entry;
+            delivery[at + 3] = clock;
+            delivery[at + 4] = deflections;
+        }
+    }
+}
+
+// Writes the words of a packet that exits behind those of `count` exits, and counts it.
+fn deliver(exits: bool, south: Register, clock: u32, delivery: &mut [u32], count: u32) -> u32
+    requires { ⌜ (count < 256) × (5 * count + 5 ≤ length (now delivery)) ⌝ }
+    ensures { λ r. ⌜ r ≡ count + one exits ⌝ }
+    ensures { λ _. ⌜ now (delivery .exit) ≡ sets (now (delivery .entry)) (5 * count) (cond exits (exitWords clock south) []) ⌝ }
+{
+    if exits {
+        put_exit(delivery, 5 * (count as usize), south, clock);
+        return count + 1;
+    }
+    count
+}
+
+// The router in column x and row y: what it sends goes to its neighbours' next registers, or is delivered after `count` exits.
+fn route(
+    state: &[u32],
+    x: u32,
+    y: u32,
+    entrants: &[u32],
+    next: &mut [u32],
+    delivery: &mut [u32],
+    count: u32,
+) -> u32
+    requires { ⌜ StateFacts (now state) ⌝ }
+    requires { ⌜ (x < sxIn (now state)) × ((y < syIn (now state)) × (clockIn (now state) < 4294967295)) ⌝ }
+    requires { ⌜ Entrants (stateOf (now state)) (countIn (now state)) (now entrants) ⌝ }
+    requires { ⌜ sizeIn (now state) ≤ length (now next) ⌝ }
+    requires { ⌜ (count < 256) × (5 * count + 5 ≤ length (now delivery)) ⌝ }
+    ensures { λ _. ⌜ now (next .exit) ≡ pushed (now (state .entry)) x y (now (next .entry)) ⌝ }
+    ensures { λ r. ⌜ r ≡ count + one (exits (stateOf (now (state .entry))) x y) ⌝ }
+    ensures { λ _. ⌜ now (delivery .exit) ≡ sets (now (delivery .entry)) (5 * count) (delivered (stateOf (now (state .entry))) x y) ⌝ }
+{
+    let sent = sent_at(state, x, y, entrants);
+    let east = sent.east;
+    let south = sent.south;
+    let exits = cycle::at_home(state, x, y, south);
+    push_east(state, x, y, east, next);
+    push_south(state, x, y, unless_exits(exits, south), next);
+    deliver(exits, south, state[3], delivery, count)
+}
+
+// The routers of row y, after `count` exits.
+fn route_row(
+    state: &[u32],
+    y: u32,
+    entrants: &[u32],
+    next: &mut [u32],
+    delivery: &mut [u32],
+    count: u32,
+) -> u32
+    requires { ⌜ StateFacts (now state) ⌝ }
+    requires { ⌜ (y < syIn (now state)) × (clockIn (now state) < 4294967295) ⌝ }
+    requires { ⌜ Entrants (stateOf (now state)) (countIn (now state)) (now entrants) ⌝ }
+    requires { ⌜ sizeIn (now state) ≤ length (now next) ⌝ }
+    requires { ⌜ (count + sxIn (now state) ≤ 256) × (5 * (count + sxIn (now state)) ≤ length (now delivery)) ⌝ }
+    ensures { λ _. ⌜ now (next .exit) ≡ pushedRow (now (state .entry)) y (now (next .entry)) ⌝ }
+    ensures { λ r. ⌜ r ≡ count + rowExits (now (state .entry)) y ⌝ }
+    ensures { λ _. ⌜ now (delivery .exit) ≡ sets (now (delivery .entry)) (5 * count) (rowDelivers (now (state .entry)) y) ⌝ }
+{
+    let sx = state[0];
+    let mut done = count;
+    for x in 0..sx {
+        done = route(state, x, y, entrants, next, delivery, done);
+    }
+    done
+}
+
+// All routers, by row then column.
+pub fn route_all(state: &[u32], entrants: &[u32], next: &mut [u32], delivery: &mut [u32]) -> u32
+    requires { ⌜ StateFacts (now state) ⌝ }
+    requires { ⌜ clockIn (now state) < 4294967295 ⌝ }
+    requires { ⌜ Entrants (stateOf (now state)) (countIn (now state)) (now entrants) ⌝ }
+    requires { ⌜ sizeIn (now state) ≤ length (now next) ⌝ }
+    requires { ⌜ 5 * (sxIn (now state) * syIn (now state)) ≤ length (now delivery) ⌝ }
+    ensures { λ _. ⌜ now (next .exit) ≡ pushedAll (now (state .entry)) (now (next .entry)) ⌝ }
+    ensures { λ r. ⌜ r ≡ exitCount (stateOf (now (state .entry))) ⌝ }
+    ensures { λ _. ⌜ now (delivery .exit) ≡ sets (now (delivery .entry)) 0 (stepDelivers (stateOf (now (state .entry)))) ⌝ }
+{
+    let sy = state[1];
+    let mut done = 0;
+    for y in 0..sy {
+        done = route_row(state, y, entrants, next, delivery, done);
+    }
+    done
+}
