@@ -10,7 +10,7 @@ ghost use Rattle.flow.specs.Plan.{flowAt};
 ghost use Rattle.plan.specs.declared.Answer.the-variants.{Done};
 ghost use Rattle.plan.specs.Layout.{planOf};
 ghost use Rattle.window.specs.Window.{windowOf};
-ghost use Rattle.window.specs.Rivals.{mostRivalWords, RivalsAmong};
+ghost use Rattle.window.specs.Rivals.{rivalWords, RivalsAmong};
 ghost use Rattle.bounds.specs.Calls.{Opened, asked, windowAnswer, flightAnswer, flightOfPlan};
 
 // Flow number f of an accepted file.
@@ -38,7 +38,7 @@ fn meet(file: &[u8], t: Trailer, own: Flow, f: u32, g: u32, rivals: &mut [u32], 
 
 // The rivals of flow f, found once; they are as many as is answered.
 fn find_rivals(file: &[u8], t: Trailer, f: u32, rivals: &mut [u32]) -> usize
-    requires { ⌜ (Opened (now file) t) × ((f < t .count) × (mostRivalWords ≤ length (now rivals))) ⌝ }
+    requires { ⌜ (Opened (now file) t) × ((f < t .count) × (rivalWords * t .count ≤ length (now rivals))) ⌝ }
     ensures { λ r. ⌜ RivalsAmong (planOf (now (file .entry))) f (t .count) (now (rivals .exit)) r ⌝ }
 {
     let own = flow_of(file, t, f);
@@ -50,14 +50,26 @@ fn find_rivals(file: &[u8], t: Trailer, f: u32, rivals: &mut [u32]) -> usize
     n
 }
 
-// The window T of flow f of an accepted file.
+// The window T of flow f of an accepted file, with room for its rivals.
+fn window_in(file: &[u8], t: Trailer, f: u32, rivals: &mut [u32]) -> Found
+    requires { ⌜ (Opened (now file) t) × ((f < t .count) × (rivalWords * t .count ≤ length (now rivals))) ⌝ }
+    ensures { λ r. ⌜ r ≡ windowOf (planOf (now (file .entry))) f ⌝ }
+{
+    let n = find_rivals(file, t, f, rivals);
+    window::least_window(rivals, n)
+}
+
+// The window T of flow f of an accepted file. Few flows need little room.
 pub fn window_found(file: &[u8], t: Trailer, f: u32) -> Found
     requires { ⌜ (Opened (now file) t) × (f < t .count) ⌝ }
     ensures { λ r. ⌜ r ≡ windowOf (planOf (now (file .entry))) f ⌝ }
 {
+    if t.count <= 64 {
+        let mut few = [0u32; window::RIVAL_WORDS * 64];
+        return window_in(file, t, f, &mut few);
+    }
     let mut rivals = [0u32; window::MOST_RIVAL_WORDS];
-    let n = find_rivals(file, t, f, &mut rivals);
-    window::least_window(&rivals, n)
+    window_in(file, t, f, &mut rivals)
 }
 
 // The flight bound of flow f of an accepted file.

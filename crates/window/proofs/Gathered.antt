@@ -4,7 +4,7 @@ use mathlib.Core.Path.{_≡_, refl, sym, ap, fun-ext, _∙_}
 use Prim.Native.Nat.{ℕ, _+_, _*_, _≤_, _<_}
 use native.Mathlib.Omega.{arith}
 use borrow.Author.Tests.{eq-eqb, ne-eqb}
-use lib.ListN.{length}
+use lib.ListN.{length, length-set}
 use Rattle.laws.specs.Bounded.{sumBelow}
 use Rattle.laws.proofs.Sum.{sum-none, sum-more}
 use Rattle.flow.specs.Plan.{Plan, PlanOk, flowAt}
@@ -12,16 +12,17 @@ use Rattle.window.specs.declared.Conflict.{Conflict}
 use Rattle.window.specs.declared.Conflict.the-variants.{Free, Spread}
 use Rattle.window.specs.Conflict.{conflict}
 use Rattle.window.specs.Window.{share, shareOf, interference, leastFrom, mostWindow, windowOf}
-use Rattle.window.specs.Rivals.{rivalWords, mostRivalWords, demandOf, RivalsAmong, Kept, keptWith}
+use Rattle.window.specs.Rivals.{rivalWords, demandOf, RivalsAmong, Kept, keptWith}
 use Rattle.window.proofs.Spread.{SpreadMost, none, some, spread-most}
 use Rattle.window.proofs.Rivals.{demand-none, with-demand, with-ok}
 
 -- no flows, no rivals
-pub among-none : (p : Plan) (f : ℕ) (l : List ℕ) → mostRivalWords ≤ length l → RivalsAmong p f 0 l 0
+pub among-none : (p : Plan) (f : ℕ) (l : List ℕ) → rivalWords * length (p .flows) ≤ length l → RivalsAmong p f 0 l 0
 among-none p f l long =
     record {
-      words = record { few = omega arith; long = long; rival-ok = λ k b. absurd (omega arith) };
+      words = record { few = omega arith; long = omega arith; rival-ok = λ k b. absurd (omega arith) };
       few = omega arith;
+      room = long;
       sum = λ t. demand-none l t ∙ sym (sum-none _);
     }
 
@@ -39,6 +40,7 @@ module _ (p : Plan) (f m : ℕ) (l : List ℕ) (n : ℕ) (h : RivalsAmong p f m 
       record {
         words = h .words;
         few = omega (arith, h .few);
+        room = h .room;
         sum = λ t. h .sum t ∙ sym (sum-more (shareOf p f t) m ∙ rw (eq-eqb m f same) (omega arith));
       }
 
@@ -52,15 +54,16 @@ module _ (p : Plan) (f m : ℕ) (l : List ℕ) (n : ℕ) (h : RivalsAmong p f m 
         → let k = keptWith l n (flowAt p m) c in RivalsAmong p f (m + 1) (k .words) (k .count)
     unfolding share
     among-by Free e none =
-        record { words = h .words; few = omega (arith, h .few); sum = λ t. sym (rw e at (next-sum t) ∙ omega arith) }
+        record { words = h .words; few = omega (arith, h .few); room = h .room; sum = λ t. sym (rw e at (next-sum t) ∙ omega arith) }
     among-by (Spread j) e (some most) =
         let g = ok .flow-ok m below in
         let few : n ≤ m = h .few in
         let all = ok .flows-most in
-        let room : rivalWords * n + 2 < length l = omega (arith, h .words .long) in
+        let room : rivalWords * n + 2 < length l = omega (arith, h .room) in
         record {
           words = with-ok l n (flowAt p m) j room (h .words) (omega arith) (g .burst-least) (g .burst-most) (g .period-least) most;
           few = omega arith;
+          room = simp length-set (h .room);
           sum = λ t. with-demand l n (flowAt p m) j room t ∙ sym (rw e at (next-sum t));
         }
 

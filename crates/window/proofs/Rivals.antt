@@ -87,7 +87,7 @@ module _ (l : List ℕ) (n : ℕ) (g : Flow) (j : ℕ) (room : rivalWords * n + 
   with-ok r few some burst period spread =
       record {
         few = omega arith;
-        long = simp length-set (r .long);
+        long = simp length-set (omega arith);
         rival-ok = λ k below.
             elim (decLe n k) [
               | yes last ↦

@@ -15,10 +15,6 @@ use Rattle.window.specs.Window.{shareOf}
 abbrev pub rivalWords : ℕ
 rivalWords = 3
 
--- room for as many rivals as there can be flows
-abbrev pub mostRivalWords : ℕ
-mostRivalWords = rivalWords * mostFlows
-
 -- what rival number k of the words l adds to I(t)
 unfoldable pub rivalShare : List ℕ → ℕ → ℕ → ℕ
 rivalShare l t k = curve (getD l (rivalWords * k) 0) (getD l (rivalWords * k + 1) 0) (t - 1 + getD l (rivalWords * k + 2) 0)
@@ -53,13 +49,14 @@ pub record RivalOk (l : List ℕ) (k : ℕ) : Type 0 where
 -- the words l hold n rivals
 pub record Rivals (l : List ℕ) (n : ℕ) : Type 0 where
   pub few : n ≤ mostFlows
-  pub long : mostRivalWords ≤ length l
+  pub long : rivalWords * n ≤ length l
   pub rival-ok : (k : ℕ) → k < n → RivalOk l k
 
 -- the words l hold the n rivals of flow number f among the first m flows: together they add to I(t) what those flows do
 pub record RivalsAmong (p : Plan) (f m : ℕ) (l : List ℕ) (n : ℕ) : Type 0 where
   pub words : Rivals l n
   pub few : n ≤ m
+  pub room : rivalWords * length (p .flows) ≤ length l
   pub sum : (t : ℕ) → demandOf l n t ≡ sumBelow m (shareOf p f t)
 
 -- words and the number of rivals in them

@@ -6,6 +6,7 @@ use lib.ListN.{length}
 use Rattle.plan.specs.Layout.{planOf}
 use Rattle.window.specs.Rivals.{RivalsAmong}
 use Rattle.window.proofs.Gathered.{among-none}
+use Rattle.bounds.proofs.Opened.{opened-count}
 use Rattle.bounds.proofs.find_rivals.Statement.{statement}
 use Rattle.bounds.proofs.find_rivals.Tie as tie
 
@@ -20,7 +21,7 @@ flow-of-requires : tie.Need-flow-of-requires Inv-loop μ-loop
 flow-of-requires c κs = let p = c .before .before .pre in (p .0, p .1 .0)
 
 loop-holds : tie.Need-loop-holds Inv-loop μ-loop
-loop-holds c = (omega arith, (omega arith, among-none _ _ _ (c .before .before .before .pre .1 .1)))
+loop-holds c = (omega arith, (omega arith, among-none _ _ _ (rw (opened-count _ _ (c .before .before .before .pre .0)) (c .before .before .before .pre .1 .1))))
 
 meet-requires : tie.Need-meet-requires Inv-loop μ-loop
 meet-requires c κs =

@@ -4,7 +4,7 @@ use native.Mathlib.Omega.{arith}
 use Rattle.plan.proofs.Ranges.{Bytes}
 use Rattle.window.specs.Rivals.{kept}
 use Rattle.window.proofs.Gathered.{among-self, among-more}
-use Rattle.bounds.proofs.Opened.{opened-pair, opened-few, opened-ok, opened-count, opened-sx, opened-sy}
+use Rattle.bounds.proofs.Opened.{opened-pair, opened-ok, opened-count, opened-sx, opened-sy}
 use Rattle.bounds.proofs.meet.Statement.{statement}
 use Rattle.bounds.proofs.meet.Tie as tie
 
@@ -24,7 +24,7 @@ keep-rival-requires : tie.Need-keep-rival-requires
 keep-rival-requires c κs =
     let p = c .before .before .before .before .before .before .pre in
     let among = p .1 .1 in
-    omega (arith, opened-few _ _ (p .0 .0), among .few, among .words .long)
+    omega (arith, opened-count _ _ (p .0 .0), among .few, among .room)
 
 returns-2 : tie.Need-returns-2
 returns-2 c =

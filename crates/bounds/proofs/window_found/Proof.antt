@@ -1,16 +1,22 @@
--- `window_found`: the rivals found make I(t), so their least window is T.
+-- `window_found`: a plan has few enough flows for the room that is lent.
+use native.Mathlib.Omega.{arith}
 use borrow.Author.Needs.{needs}
-use mathlib.Core.Path.{_∙_}
-use Rattle.window.proofs.Gathered.{among-all}
-use Rattle.bounds.proofs.Opened.{opened-count}
+use Rattle.bounds.proofs.Opened.{opened-few}
 use Rattle.bounds.proofs.window_found.Statement.{statement}
 use Rattle.bounds.proofs.window_found.Tie as tie
 
-returns : tie.Need-returns
-returns c =
-    let p = c .before .before .before .before .before .before .pre in
-    c .least-window .ensures ∙ among-all _ _ _ _ (rw (opened-count _ _ (p .0)) (c .before .before .before .find-rivals .ensures))
+window-in-requires-2 : tie.Need-window-in-requires-2
+window-in-requires-2 c κs =
+    let p = c .before .before .before .before .pre in
+    (p .0, (p .1, omega (arith, opened-few _ _ (p .0))))
 
 pub window-found-spec : {M : Type 1} → statement M
 window-found-spec =
-    tie.close (tie.spec (λ c. search needs) (λ c κs. search needs) (λ c. search needs) (λ c κs. search needs) returns)
+    tie.close
+    (tie.spec
+    (λ c. search needs)
+    (λ c κs. search needs)
+    (λ c. search needs)
+    (λ c. search needs)
+    window-in-requires-2
+    (λ c. search needs))
