@@ -13,7 +13,6 @@ ghost use Rattle.state.specs.declared.Register.the-variants.{Empty};
 ghost use Rattle.state.specs.State.{tallyAt, cellAt};
 ghost use Rattle.state.specs.Words.{flowOf};
 ghost use Rattle.state.specs.Read.{sxIn, syIn, countIn, routerIn, stateOf};
-ghost use Rattle.state.specs.Forms.{sizeIn};
 ghost use Rattle.state.proofs.Forms.{StateFacts};
 ghost use Rattle.cycle.specs.Router.{isEmpty, turnsSouth, atHome, deflected, firstOf};
 ghost use Rattle.cycle.specs.Bounds.{deflectionsOf};
@@ -105,14 +104,6 @@ pub fn router_place(state: &[u32], x: u32, y: u32) -> usize
 {
     let flows = state[2] as usize;
     8 + 10 * flows + 8 * router_index(state[0], x, y)
-}
-
-// The size of the state.
-pub fn size_of(state: &[u32]) -> usize
-    requires { ⌜ StateFacts (now state) ⌝ }
-    ensures { λ r. ⌜ r ≡ sizeIn (now (state .entry)) ⌝ }
-{
-    8 + 10 * (state[2] as usize) + 8 * ((state[0] * state[1]) as usize)
 }
 
 // The plan numbers of flow f.

@@ -65,7 +65,7 @@ fn advance(state: &mut [u32], delivery: &mut [u32]) -> u32
     let mut entrants = [0u32; 256];
     let mut next = [0u32; 4616];
     let exits = fill_next(state, &mut entrants, &mut next, delivery);
-    let size = cycle::size_of(state);
+    let size = forms::size_in(state);
     copy(&next, state, size);
     exits
 }

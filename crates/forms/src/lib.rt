@@ -218,7 +218,7 @@ fn rows_fit(w: &[u32]) -> bool
 }
 
 // The size that the header asks for.
-fn size_in(w: &[u32]) -> usize
+pub fn size_in(w: &[u32]) -> usize
     requires { ⌜ (headerSize ≤ length (now w)) × (headerFits (now w) ≡ true) ⌝ }
     ensures { λ r. ⌜ r ≡ sizeIn (now (w .entry)) ⌝ }
 {
