@@ -103,7 +103,9 @@ pub fn router_place(state: &[u32], x: u32, y: u32) -> usize
     ensures { λ r. ⌜ r ≡ routerIn (now (state .entry)) x y ⌝ }
 {
     let flows = state[2] as usize;
-    8 + 10 * flows + 8 * router_index(state[0], x, y)
+    state::HEADER_SIZE
+        + state::FLOW_SIZE * flows
+        + state::ROUTER_SIZE * router_index(state[0], x, y)
 }
 
 // The plan numbers of flow f.
@@ -112,7 +114,7 @@ pub fn flow_at(state: &[u32], f: u32) -> Flow
     requires { ⌜ f < countIn (now state) ⌝ }
     ensures { λ r. ⌜ r ≡ flowAt ((stateOf (now (state .entry))) .plan) f ⌝ }
 {
-    state::flow_in(state, 8 + 10 * (f as usize))
+    state::flow_in(state, state::HEADER_SIZE + state::FLOW_SIZE * (f as usize))
 }
 
 // Its bucket, entered and waiting.
@@ -121,7 +123,7 @@ pub fn tally_at(state: &[u32], f: u32) -> Tally
     requires { ⌜ f < countIn (now state) ⌝ }
     ensures { λ r. ⌜ r ≡ tallyAt (stateOf (now (state .entry))) f ⌝ }
 {
-    state::tally_in(state, 8 + 10 * (f as usize))
+    state::tally_in(state, state::HEADER_SIZE + state::FLOW_SIZE * (f as usize))
 }
 
 // The registers of the router in column x and row y.

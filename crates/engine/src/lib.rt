@@ -33,7 +33,7 @@ fn begin_next(state: &[u32], next: &mut [u32])
     ensures { λ _. ⌜ now (next .exit) ≡ begun (now (state .entry)) (now (next .entry)) ⌝ }
 {
     let flows = state[2] as usize;
-    copy(state, next, 8 + 10 * flows);
+    copy(state, next, state::HEADER_SIZE + state::FLOW_SIZE * flows);
     next[3] = state[3] + 1;
 }
 
@@ -63,7 +63,7 @@ fn advance(state: &mut [u32], delivery: &mut [u32]) -> u32
     ensures { λ _. ⌜ now (delivery .exit) ≡ over (stepDelivers (stateOf (now (state .entry)))) (now (delivery .entry)) ⌝ }
 {
     let mut entrants = [0u32; 256];
-    let mut next = [0u32; 4616];
+    let mut next = [0u32; state::MOST_STATE];
     let exits = fill_next(state, &mut entrants, &mut next, delivery);
     let size = forms::size_in(state);
     copy(&next, state, size);
@@ -83,7 +83,11 @@ fn wait_more(state: &mut [u32], f: u32)
         entered: t.entered,
         waiting: t.waiting + 1,
     };
-    state::put_tally(state, 8 + 10 * (f as usize), more);
+    state::put_tally(
+        state,
+        state::HEADER_SIZE + state::FLOW_SIZE * (f as usize),
+        more,
+    );
 }
 
 // The refusal of an offer after the state's own, or 0.
@@ -95,7 +99,7 @@ fn offer_number(state: &[u32], f: u32) -> u32
         return 12;
     }
     let t = cycle::tally_at(state, f);
-    if 65535 <= t.waiting {
+    if state::MOST_WAITING <= t.waiting {
         return 13;
     }
     0
@@ -129,7 +133,7 @@ fn step_number(state: &[u32], delivery: &[u32]) -> u32
     if delivery.len() < 5 * routers {
         return 10;
     }
-    if state[3] == 4294967295 {
+    if state[3] == state::LAST_CLOCK {
         return 11;
     }
     0

@@ -108,7 +108,11 @@ fn flow_turn(state: &[u32], f: u32, entrants: &mut [u32], next: &mut [u32])
     let tally = cycle::tally_at(state, f);
     let enters = enter(state, f, entrants);
     let after = tally_after(flow, tally, enters);
-    state::put_tally(next, 8 + 10 * (f as usize), after);
+    state::put_tally(
+        next,
+        state::HEADER_SIZE + state::FLOW_SIZE * (f as usize),
+        after,
+    );
 }
 
 // One walk over the flows: the entrants of all clients, and every flow's next tally.

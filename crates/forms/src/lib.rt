@@ -75,7 +75,7 @@ fn tally_fits(clock: u32, f: Flow, t: Tally) -> bool
     if !b.fits(f.burst, f.period) {
         return false;
     }
-    if 65535 < t.waiting {
+    if state::MOST_WAITING < t.waiting {
         return false;
     }
     t.entered <= clock
@@ -86,7 +86,7 @@ fn flow_fits(w: &[u32], f: usize) -> bool
     requires { ⌜ flowPlace f + flowSize ≤ length (now w) ⌝ }
     ensures { λ r. ⌜ r ≡ flowFits (now (w .entry)) f ⌝ }
 {
-    let at = 8 + 10 * f;
+    let at = state::HEADER_SIZE + state::FLOW_SIZE * f;
     let flow = state::flow_in(w, at);
     if !numbers_fit(w[0], w[1], flow) {
         return false;
@@ -128,7 +128,7 @@ fn packet_fits(
     if serial < 1 {
         return false;
     }
-    let at = 8 + 10 * (flow as usize);
+    let at = state::HEADER_SIZE + state::FLOW_SIZE * (flow as usize);
     if w[at + 8] < serial {
         return false;
     }
@@ -172,7 +172,7 @@ pub fn router_at(w: &[u32], x: u32, y: u32) -> usize
     ensures { λ r. ⌜ r ≡ routerIn (now (w .entry)) x y ⌝ }
 {
     let cell = y * w[0] + x;
-    8 + 10 * (w[2] as usize) + 8 * (cell as usize)
+    state::HEADER_SIZE + state::FLOW_SIZE * (w[2] as usize) + state::ROUTER_SIZE * (cell as usize)
 }
 
 // Both registers of a router are those of a state.
@@ -222,7 +222,9 @@ pub fn size_in(w: &[u32]) -> usize
     requires { ⌜ (headerSize ≤ length (now w)) × (headerFits (now w) ≡ true) ⌝ }
     ensures { λ r. ⌜ r ≡ sizeIn (now (w .entry)) ⌝ }
 {
-    8 + 10 * (w[2] as usize) + 8 * ((w[0] * w[1]) as usize)
+    state::HEADER_SIZE
+        + state::FLOW_SIZE * (w[2] as usize)
+        + state::ROUTER_SIZE * ((w[0] * w[1]) as usize)
 }
 
 // 0 for words that form a state, otherwise 8 or 9: what every call on a state refuses first.

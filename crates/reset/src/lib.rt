@@ -53,7 +53,11 @@ fn put_flows(file: &[u8], start: usize, count: usize, w: &mut [u32])
     ensures { λ _. ⌜ now (w .exit) ≡ sets (now (w .entry)) headerSize (joinBelow count (λ f. freshWords (flowFrom (now (file .entry)) (start + recordSize * f)))) ⌝ }
 {
     for f in 0..count {
-        put_flow(w, 8 + 10 * f, plan::flow_at(file, start + 8 * f));
+        put_flow(
+            w,
+            state::HEADER_SIZE + state::FLOW_SIZE * f,
+            plan::flow_at(file, start + plan::RECORD_SIZE * f),
+        );
     }
 }
 
@@ -63,8 +67,15 @@ fn clear(w: &mut [u32], at: usize, routers: usize)
     ensures { λ _. ⌜ now (w .exit) ≡ sets (now (w .entry)) at (joinBelow routers (λ i. cellWords emptyCell)) ⌝ }
 {
     for i in 0..routers {
-        state::put_four(w, at + 8 * i, 0, 0, 0, 0);
-        state::put_four(w, at + 8 * i + 4, 0, 0, 0, 0);
+        state::put_four(w, at + state::ROUTER_SIZE * i, 0, 0, 0, 0);
+        state::put_four(
+            w,
+            at + state::ROUTER_SIZE * i + state::REGISTER_SIZE,
+            0,
+            0,
+            0,
+            0,
+        );
     }
 }
 
@@ -76,8 +87,8 @@ fn reset_accepted(file: &[u8], w: &mut [u32]) -> Answer
     let t = plan::read_trailer(file);
     let count = t.count as usize;
     let routers = (t.sx * t.sy) as usize;
-    let at = 8 + 10 * count;
-    if w.len() < at + 8 * routers {
+    let at = state::HEADER_SIZE + state::FLOW_SIZE * count;
+    if w.len() < at + state::ROUTER_SIZE * routers {
         return Answer::Refused {
             number: 8,
             place: 0,

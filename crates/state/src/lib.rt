@@ -10,6 +10,21 @@ ghost use Rattle.state.specs.Layout.{flowSize, numberSize, registerSize,
 ghost use Rattle.state.specs.Words.{numberWords, tallyWords, registerWords, flowOf};
 ghost use Rattle.state.specs.Read.{flowIn, tallyIn, registerIn, cellIn};
 
+// The words in front of the flows: Sx, Sy, F, clock, four zeros.
+pub const HEADER_SIZE: usize = 8;
+// The words of a flow.
+pub const FLOW_SIZE: usize = 10;
+// The words of a link register.
+pub const REGISTER_SIZE: usize = 4;
+// The words of a router: W before N.
+pub const ROUTER_SIZE: usize = 8;
+// The words of the largest state: 256 flows on 16 by 16.
+pub const MOST_STATE: usize = 4616;
+// A flow's most waiting packets.
+pub const MOST_WAITING: u32 = 65535;
+// The clock of the last state.
+pub const LAST_CLOCK: u32 = 4294967295;
+
 // A link register read from the words: empty, or one packet.
 pub enum Register {
     Empty,
@@ -88,7 +103,7 @@ pub fn cell_in(w: &[u32], at: usize) -> Cell
     ensures { λ r. ⌜ r ≡ cellIn (now (w .entry)) at ⌝ }
 {
     let west = register_at(w, at);
-    let north = register_at(w, at + 4);
+    let north = register_at(w, at + REGISTER_SIZE);
     Cell { west, north }
 }
 

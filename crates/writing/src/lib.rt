@@ -18,6 +18,9 @@ ghost use Rattle.state.specs.Outcome.{outcome};
 ghost use Rattle.state.specs.Calls.{writeOn};
 ghost use Rattle.writing.specs.Bytes.{bytesOn};
 
+// The most bytes of a file in front of its trailer.
+const MOST_BODY: usize = 65524;
+
 // Writes four bytes at a place.
 fn put_bytes(target: &mut [u8], at: usize, a: u8, b: u8, c: u8, d: u8)
     requires { ⌜ at + 4 ≤ length (now target) ⌝ }
@@ -60,7 +63,11 @@ fn put_records(state: &[u32], count: usize, target: &mut [u8], start: usize)
     ensures { λ _. ⌜ now (target .exit) ≡ sets (now (target .entry)) start (joinBelow count (λ f. recordBytes (flowIn (now (state .entry)) (flowPlace f)))) ⌝ }
 {
     for f in 0..count {
-        put_record(target, start + 8 * f, state::flow_in(state, 8 + 10 * f));
+        put_record(
+            target,
+            start + plan::RECORD_SIZE * f,
+            state::flow_in(state, state::HEADER_SIZE + state::FLOW_SIZE * f),
+        );
     }
 }
 
@@ -129,13 +136,13 @@ fn write_accepted(state: &[u32], notes: &[u8], target: &mut [u8]) -> Answer
     let flows = state[2];
     let count = flows as usize;
     let start = notes.len();
-    if 65524 - 8 * count < start {
+    if MOST_BODY - plan::RECORD_SIZE * count < start {
         return Answer::Refused {
             number: 1,
             place: 0,
         };
     }
-    let at = start + 8 * count;
+    let at = start + plan::RECORD_SIZE * count;
     if target.len() < at + 12 {
         return Answer::Refused {
             number: 15,
