@@ -1,1 +1,2 @@
--- Nothing beside the functions' proofs.
+-- The law of a flow on the torus, beside the functions' proofs.
+pub mod Plan

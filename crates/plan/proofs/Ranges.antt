@@ -10,6 +10,7 @@ use lib.ListN.{length, getD}
 use Rattle.laws.proofs.Bounded.{length-tabulate, getD-tabulate}
 use Rattle.laws.proofs.Cases.{and-true, or-false, passed}
 use Rattle.flow.specs.declared.Flow.{Flow}
+use Rattle.flow.proofs.Plan.{on-torus-facts}
 use Rattle.flow.specs.Plan.{FlowOk, PlanOk, flowAt, noFlow, onTorus}
 use Rattle.plan.specs.declared.Trailer.{Trailer}
 use Rattle.plan.specs.declared.Answer.the-variants.{Done}
@@ -42,14 +43,12 @@ record-ok sx sy f last e =
     let rates = or-false (eqb (f .period) 0) (eqb (f .burst) 0) (zeros .0) in
     let p = eqb-false (f .period) 0 (rates .0) in
     let b = eqb-false (f .burst) 0 (rates .1) in
-    let three = and-true (ltb (f .xs) sx && ltb (f .ys) sy && ltb (f .xd) sx) (ltb (f .yd) sy) (not-false (onTorus sx sy f) (six .0)) in
-    let two = and-true (ltb (f .xs) sx && ltb (f .ys) sy) (ltb (f .xd) sx) (three .0) in
-    let one = and-true (ltb (f .xs) sx) (ltb (f .ys) sy) (two .0) in
+    let on = on-torus-facts sx sy f (not-false (onTorus sx sy f) (six .0)) in
     record {
-      xs-on = ltb-true _ _ (one .0);
-      ys-on = ltb-true _ _ (one .1);
-      xd-on = ltb-true _ _ (two .1);
-      yd-on = ltb-true _ _ (three .1);
+      xs-on = on .xs-on;
+      ys-on = on .ys-on;
+      xd-on = on .xd-on;
+      yd-on = on .yd-on;
       period-least = omega arith;
       burst-least = omega arith;
       last-zero = eqb-true last 0 (not-false _ (zeros .1));

@@ -14,6 +14,7 @@ use Rattle.laws.specs.Grid.{cellIndex}
 use Rattle.laws.proofs.Bounded.{all-at}
 use Rattle.laws.proofs.Grid.{cell-below}
 use Rattle.flow.specs.declared.Flow.{Flow}
+use Rattle.flow.proofs.Plan.{on-torus-facts}
 use Rattle.flow.specs.Plan.{FlowOk, onTorus, mostSize, mostFlows, mostPeriod, mostBurst}
 use Rattle.bucket.specs.Regulator.{bucketFits}
 use Rattle.plan.specs.Refusals.{sizeOk}
@@ -86,14 +87,12 @@ numbers-facts sx sy f e =
     let rates = and-true (onTorus sx sy f) (leb 1 (f .period) && leb (f .period) mostPeriod) (all .0) in
     let period = and-true (leb 1 (f .period)) (leb (f .period) mostPeriod) (rates .1) in
     let burst = and-true (leb 1 (f .burst)) (leb (f .burst) mostBurst) (all .1) in
-    let three = and-true (ltb (f .xs) sx && ltb (f .ys) sy && ltb (f .xd) sx) (ltb (f .yd) sy) (rates .0) in
-    let two = and-true (ltb (f .xs) sx && ltb (f .ys) sy) (ltb (f .xd) sx) (three .0) in
-    let one = and-true (ltb (f .xs) sx) (ltb (f .ys) sy) (two .0) in
+    let on = on-torus-facts sx sy f (rates .0) in
     record {
-      xs-on = ltb-true _ _ (one .0);
-      ys-on = ltb-true _ _ (one .1);
-      xd-on = ltb-true _ _ (two .1);
-      yd-on = ltb-true _ _ (three .1);
+      xs-on = on .xs-on;
+      ys-on = on .ys-on;
+      xd-on = on .xd-on;
+      yd-on = on .yd-on;
       period-least = leb-true 1 _ (period .0);
       period-most = leb-true _ mostPeriod (period .1);
       burst-least = leb-true 1 _ (burst .0);
