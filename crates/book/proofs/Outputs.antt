@@ -15,11 +15,11 @@ use Rattle.laws.proofs.Count.{one-most, any-true, any-mem, mem-count, any-count
 use Rattle.flow.specs.declared.Flow.{Flow}
 use Rattle.flow.specs.declared.Port.{Port}
 use Rattle.flow.specs.declared.Port.the-variants.{East, South}
-use Rattle.flow.specs.Offsets.{portOf}
+use Rattle.flow.specs.Offsets.{portOf, samePort}
 use Rattle.flow.specs.Plan.{Plan, flowAt}
 use Rattle.book.specs.Line.{Place, W, N, Stage, waiting, placed, left, Line, isWaiting, standsIn}
 use Rattle.book.specs.Book.{Book, ofFlow}
-use Rattle.book.specs.Cycle.{samePort, full, turns, westTurns, isOpen, enters, lowest, leaves, leavesBy}
+use Rattle.book.specs.Cycle.{full, turns, westTurns, isOpen, enters, lowest, leaves, leavesBy}
 use Rattle.book.proofs.Entries.{turns-any, turns-some, client-same, entering-ready, one-enters}
 use Rattle.book.proofs.Moves.{goes}
 use Rattle.book.proofs.Queue.{Queued, goes-count}

@@ -16,11 +16,11 @@ use Rattle.torus.proofs.Ring.{next-below, next-one, next-of}
 use Rattle.flow.specs.declared.Flow.{Flow}
 use Rattle.flow.specs.declared.Port.{Port}
 use Rattle.flow.specs.declared.Port.the-variants.{East, South}
-use Rattle.flow.specs.Offsets.{portOf}
+use Rattle.flow.specs.Offsets.{portOf, samePort}
 use Rattle.flow.specs.Plan.{Plan, flowAt, FlowOk}
 use Rattle.book.specs.Line.{Place, W, N, columnOf, rowOf, samePlace, Stage, waiting, placed, left, Line, standsIn}
 use Rattle.book.specs.Book.{Book, offered, offeredLine}
-use Rattle.book.specs.Cycle.{samePort, output, enters, lowest, sent, leaves, leavesBy, moveStage, move, stepped}
+use Rattle.book.specs.Cycle.{output, enters, lowest, sent, leaves, leavesBy, moveStage, move, stepped}
 use Rattle.book.proofs.Path.{Sound, placed-on}
 use Rattle.book.proofs.Traced.{line-ok}
 use Rattle.book.proofs.Spans.{Lawful}

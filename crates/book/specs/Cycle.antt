@@ -10,17 +10,11 @@ use Rattle.torus.specs.Ring.{next}
 use Rattle.flow.specs.declared.Flow.{Flow}
 use Rattle.flow.specs.declared.Port.{Port}
 use Rattle.flow.specs.declared.Port.the-variants.{East, South}
-use Rattle.flow.specs.Offsets.{portOf, sameClient}
+use Rattle.flow.specs.Offsets.{portOf, sameClient, samePort}
 use Rattle.flow.specs.Plan.{Plan, flowAt}
 use Rattle.bucket.specs.Regulator.{afterCycle}
 use Rattle.book.specs.Line.{Place, W, N, columnOf, rowOf, Stage, waiting, placed, left, Line, standsIn, leftAt, entryOf, exitOf}
 use Rattle.book.specs.Book.{Book, bucketAt, waitsFor}
-
-abbrev pub samePort : Port → Port → Bool
-samePort East East = true
-samePort East South = false
-samePort South East = false
-samePort South South = true
 
 -- a register holds a packet
 abbrev pub full : Book → Place → Bool

@@ -7,7 +7,7 @@ use Rattle.laws.specs.Bounded.{anyBelow}
 use Rattle.flow.specs.declared.Flow.{Flow}
 use Rattle.flow.specs.declared.Port.{Port}
 use Rattle.flow.specs.declared.Port.the-variants.{East, South}
-use Rattle.flow.specs.Offsets.{portOf, sameClient}
+use Rattle.flow.specs.Offsets.{portOf, sameClient, samePort}
 use Rattle.flow.specs.Plan.{Plan, flowAt}
 use Rattle.state.specs.declared.Register.{Register}
 use Rattle.state.specs.declared.Register.the-variants.{Empty, Packet}
@@ -37,16 +37,10 @@ abbrev pub entering : State → ℕ → Register
 entering s f = Packet f ((tallyAt s f) .entered + 1) (s .clock) 0
 
 -- flow f's client is the router in column x and row y, and its port is this one
-abbrev pub isPort : Port → Port → Bool
-isPort East East = true
-isPort East South = false
-isPort South East = false
-isPort South South = true
-
 abbrev pub uses : State → (x y : ℕ) → Port → ℕ → Bool
 uses s x y port f =
     let φ : Flow = flowAt (s .plan) f in
-    eqb (φ .xs) x && eqb (φ .ys) y && isPort port (portOf (s .plan .sx) φ)
+    eqb (φ .xs) x && eqb (φ .ys) y && samePort port (portOf (s .plan .sx) φ)
 
 -- what the client of the router in column x and row y sends by a port: the packet of the flow below n that enters there
 unfoldable pub clientBelow : State → (x y : ℕ) → Port → (n : ℕ) → Register

@@ -16,14 +16,14 @@ use Rattle.laws.proofs.Grid.{cell-below, cell-one}
 use Rattle.laws.specs.Bounded.{anyBelow}
 use Rattle.laws.proofs.Cases.{test, and-true as both}
 use Rattle.flow.specs.declared.Port.{Port}
-use Rattle.flow.specs.Offsets.{portOf}
+use Rattle.flow.specs.Offsets.{portOf, samePort}
 use Rattle.flow.specs.Plan.{flowAt}
 use Rattle.state.specs.declared.Register.{Register}
 use Rattle.state.specs.declared.Register.the-variants.{Empty, Packet}
 use Rattle.state.specs.declared.Tally.{Tally}
 use Rattle.state.specs.State.{State, tallyAt}
 use Rattle.cycle.specs.Router.{firstOf}
-use Rattle.cycle.specs.Entry.{ready, enters, entering, uses, isPort, clientBelow}
+use Rattle.cycle.specs.Entry.{ready, enters, entering, uses, clientBelow}
 use Rattle.entry.specs.Entrants.{isClient, entrant, sendsBy, Entrants, tallyAfter}
 use Rattle.cycle.specs.Step.{nextTally}
 
@@ -98,12 +98,12 @@ module _ (s : State) where
       (turn (entrant s x y n) (isClient s x y n) (ready s n) (enters s n) here)
     where
       sent : ℕ → Register
-      sent f = cond (isPort port (portOf (s .plan .sx) (flowAt (s .plan) f))) (entering s f) Empty
+      sent f = cond (samePort port (portOf (s .plan .sx) (flowAt (s .plan) f))) (entering s f) Empty
 
       eqb-sym : (a b : ℕ) → eqb a b ≡ eqb b a
       eqb-sym a b = elim (ℕ-discrete a b) [ yes e ↦ rw e | no e ↦ rw (ne-eqb a b e, ne-eqb b a (λ q. e (sym q))) ]
 
-      uses-client : uses s x y port n ≡ isClient s x y n && isPort port (portOf (s .plan .sx) (flowAt (s .plan) n))
+      uses-client : uses s x y port n ≡ isClient s x y n && samePort port (portOf (s .plan .sx) (flowAt (s .plan) n))
       uses-client = rw (eqb-sym (xsOf n) x, eqb-sym (ysOf n) y)
 
       here : isClient s x y n ≡ true → enters s n ≡ eqb (entrant s x y n) 0 && ready s n
@@ -116,7 +116,7 @@ module _ (s : State) where
       first-alone (Packet flow serial entry deflections) = refl
 
       turn : (e : ℕ) (c r en : Bool) → (c ≡ true → en ≡ eqb e 0 && r)
-          → firstOf (sendsBy s port e) (cond ((c && isPort port (portOf (s .plan .sx) (flowAt (s .plan) n))) && en) (entering s n) Empty)
+          → firstOf (sendsBy s port e) (cond ((c && samePort port (portOf (s .plan .sx) (flowAt (s .plan) n))) && en) (entering s n) Empty)
           ≡ sendsBy s port (cond (eqb e 0) (cond (c && r) (n + 1) 0) e)
       turn zero false r en h = refl
       turn zero true true en h = rw (h refl, add-one n, and-true)

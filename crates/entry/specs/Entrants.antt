@@ -11,7 +11,7 @@ use Rattle.laws.specs.Count.{one}
 use Rattle.laws.specs.Grid.{cellIndex}
 use Rattle.flow.specs.declared.Flow.{Flow}
 use Rattle.flow.specs.declared.Port.{Port}
-use Rattle.flow.specs.Offsets.{portOf}
+use Rattle.flow.specs.Offsets.{portOf, samePort}
 use Rattle.flow.specs.Plan.{flowAt}
 use Rattle.bucket.specs.Regulator.{afterCycle}
 use Rattle.state.specs.declared.Register.{Register}
@@ -21,7 +21,7 @@ use Rattle.state.specs.Layout.{flowPlace, numberSize}
 use Rattle.state.specs.State.{State, cellAt}
 use Rattle.state.specs.Words.{tallyWords}
 use Rattle.state.specs.Read.{stateOf}
-use Rattle.cycle.specs.Entry.{portOpen, ready, entering, isPort}
+use Rattle.cycle.specs.Entry.{portOpen, ready, entering}
 use Rattle.cycle.specs.Step.{nextTally}
 
 -- the port of a flow at its client's router is open
@@ -42,7 +42,7 @@ entrant s x y (suc n) = cond (eqb (entrant s x y n) 0) (cond (isClient s x y n &
 -- what a client sends by a port, by its entrant
 unfoldable pub sendsBy : State → Port → (entrant : ℕ) → Register
 sendsBy s port zero = Empty
-sendsBy s port (suc f) = cond (isPort port (portOf (s .plan .sx) (flowAt (s .plan) f))) (entering s f) Empty
+sendsBy s port (suc f) = cond (samePort port (portOf (s .plan .sx) (flowAt (s .plan) f))) (entering s f) Empty
 
 -- the entrants of all clients after n flows, in the order of the routers
 pub record Entrants (s : State) (n : ℕ) (l : List ℕ) : Type 0 where

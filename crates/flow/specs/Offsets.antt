@@ -1,5 +1,5 @@
 -- A flow's offsets, port and client (01, Torus and plan file; One cycle, rule 3).
-use mathlib.Core.Bool.{Bool, cond, _&&_}
+use mathlib.Core.Bool.{Bool, true, false, cond, _&&_}
 use Prim.Native.Nat.{ℕ}
 use lib.Dec.{ltb, eqb}
 use Rattle.flow.specs.declared.Flow.{Flow}
@@ -22,3 +22,10 @@ portOf sx f = cond (ltb 0 (ΔX sx f)) East South
 -- two flows of one client: the same source router
 abbrev pub sameClient : Flow → Flow → Bool
 sameClient f g = eqb (f .xs) (g .xs) && eqb (f .ys) (g .ys)
+
+-- the two ports are one
+abbrev pub samePort : Port → Port → Bool
+samePort East East = true
+samePort East South = false
+samePort South East = false
+samePort South South = true

@@ -4,7 +4,7 @@ use mathlib.Core.List.{List}
 use Prim.Native.Nat.{ℕ, zero, suc, _≤_, _<_}
 use Rattle.flow.specs.declared.Port.{Port}
 use Rattle.flow.specs.declared.Port.the-variants.{East, South}
-use Rattle.flow.specs.Offsets.{portOf}
+use Rattle.flow.specs.Offsets.{portOf, samePort}
 use Rattle.flow.specs.Plan.{flowAt}
 use Rattle.state.specs.declared.Register.{Register}
 use Rattle.state.specs.declared.Register.the-variants.{Empty, Packet}
@@ -14,7 +14,7 @@ use Rattle.state.specs.Read.{sxIn, syIn, countIn, stateOf}
 use Rattle.state.proofs.Forms.{StateFacts}
 use Rattle.state.proofs.View.{view-count}
 use Rattle.cycle.specs.Router.{turnsSouth, deflected, firstOf, sentEast, sentSouth}
-use Rattle.cycle.specs.Entry.{isPort, clientSends}
+use Rattle.cycle.specs.Entry.{clientSends}
 use Rattle.cycle.specs.Step.{eastward, southward}
 use Rattle.entry.specs.Entrants.{sendsBy}
 use Rattle.entry.proofs.Entrant.{client-walk, entrant-below}
@@ -37,7 +37,7 @@ module _ (w : List ℕ) (s : StateFacts w) where
   sends-flow : (port : Port) (e : ℕ) → e ≤ countIn w → flowOf (sendsBy (stateOf w) port e) < countIn w
   unfolding sendsBy
   sends-flow port zero h = s .header .count-least
-  sends-flow port (suc f) h = either _ _ (isPort port (portOf ((stateOf w) .plan .sx) (flowAt ((stateOf w) .plan) f))) h (s .header .count-least)
+  sends-flow port (suc f) h = either _ _ (samePort port (portOf ((stateOf w) .plan .sx) (flowAt ((stateOf w) .plan) f))) h (s .header .count-least)
 
   client-flow : (x y : ℕ) (port : Port) → flowOf (clientSends (stateOf w) x y port) < countIn w
   unfolding stateOf

@@ -21,11 +21,11 @@ use Rattle.laws.proofs.Keep.{keep-same, keep-none, keep-one}
 use Rattle.flow.specs.declared.Flow.{Flow}
 use Rattle.flow.specs.declared.Port.{Port}
 use Rattle.flow.specs.declared.Port.the-variants.{East, South}
-use Rattle.flow.specs.Offsets.{portOf}
+use Rattle.flow.specs.Offsets.{portOf, samePort}
 use Rattle.flow.specs.Plan.{Plan, flowAt}
 use Rattle.book.specs.Line.{Stage, waiting, placed, left, Line, isWaiting, entryOf}
 use Rattle.book.specs.Book.{Book, ofFlow, enteredOf}
-use Rattle.book.specs.Cycle.{samePort, deflected, lowest, move}
+use Rattle.book.specs.Cycle.{deflected, lowest, move}
 use Rattle.book.specs.Cycle
 use Rattle.book.proofs.Path.{Sound}
 use Rattle.book.proofs.Moves.{goes, Turn, keeps, stays, comes, turn}
@@ -33,7 +33,7 @@ use Rattle.book.proofs.Entries.{client-same, one-enters}
 use Rattle.book.proofs.Queue.{lowest-next, goes-count}
 use Rattle.state.specs.declared.Register.the-variants.{Empty, Packet}
 use Rattle.state.specs.State.{State}
-use Rattle.cycle.specs.Entry.{entering, isPort, uses, clientBelow, clientSends}
+use Rattle.cycle.specs.Entry.{entering, uses, clientBelow, clientSends}
 use Rattle.cycle.specs.Entry
 use Rattle.book.proofs.Kept.{Kept}
 use Rattle.book.proofs.Outputs.{client, Entering, client-parts}
@@ -46,7 +46,7 @@ use Rattle.run.proofs.Sends.{atPort}
 abbrev admits : State → (x y : ℕ) → Port → ℕ → Bool
 admits s x y o f = uses s x y o f && Entry.enters s f
 
-port-sym : (o o′ : Port) → isPort o o′ ≡ samePort o′ o
+port-sym : (o o′ : Port) → samePort o o′ ≡ samePort o′ o
 port-sym East East = refl
 port-sym East South = refl
 port-sym South East = refl

@@ -8,6 +8,7 @@ use Prim.Native.Nat.{ℕ, _+_}
 use native.Mathlib.Nat.{add-zero}
 use borrow.Author.Tests.{eqb-true}
 use lib.Dec.{eqb}
+use Rattle.flow.specs.Offsets.{samePort}
 use Rattle.laws.specs.Count.{one, keep}
 use Rattle.laws.proofs.Cases.{test}
 use Rattle.laws.proofs.Cases as Cases
@@ -17,7 +18,7 @@ use Rattle.flow.specs.declared.Port.the-variants.{East, South}
 use Rattle.flow.specs.Plan.{Plan, flowAt}
 use Rattle.book.specs.Line.{Place, W, N, Stage, waiting, placed, left, Line, standsIn, entryOf}
 use Rattle.book.specs.Book.{Book}
-use Rattle.book.specs.Cycle.{samePort, westTurns, deflects, deflected, isOpen, moveStage, leaves, leavesBy, move}
+use Rattle.book.specs.Cycle.{westTurns, deflects, deflected, isOpen, moveStage, leaves, leavesBy, move}
 use Rattle.book.proofs.Moves.{sent-entry}
 use Rattle.state.specs.declared.Register.{Register}
 use Rattle.state.specs.declared.Register.the-variants.{Empty, Packet}

@@ -5,6 +5,7 @@ use mathlib.Core.List.{map, List·Memᴰ as Mem}
 use mathlib.Core.Logic.{inl, inr}
 use mathlib.Core.Path.{_≡_, refl, sym, _∙_}
 use Prim.Native.Nat.{ℕ, _<_}
+use Rattle.flow.specs.Offsets.{samePort}
 use Rattle.laws.proofs.Cases.{test}
 use Rattle.laws.proofs.Cases as Cases
 use Rattle.laws.proofs.Count.{any-mem}
@@ -14,7 +15,7 @@ use Rattle.flow.specs.declared.Port.the-variants.{East, South}
 use Rattle.flow.specs.Plan.{Plan}
 use Rattle.book.specs.Line.{Place, W, N, Line}
 use Rattle.book.specs.Book.{Book}
-use Rattle.book.specs.Cycle.{samePort, full, westTurns, deflects, leavesBy, move}
+use Rattle.book.specs.Cycle.{full, westTurns, deflects, leavesBy, move}
 use Rattle.state.specs.declared.Register.{Register}
 use Rattle.state.specs.declared.Register.the-variants.{Empty, Packet}
 use Rattle.cycle.specs.Router.{isEmpty, firstOf, sentEast, sentSouth}

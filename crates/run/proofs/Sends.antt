@@ -8,6 +8,7 @@ use native.Mathlib.Decide.{ℕ-discrete}
 use native.Mathlib.Omega.{arith}
 use borrow.Author.Tests.{eq-eqb, ne-eqb, eqb-true}
 use lib.Dec.{eqb}
+use Rattle.flow.specs.Offsets.{samePort}
 use Rattle.laws.proofs.Cases.{test}
 use Rattle.laws.proofs.Cases as Cases
 use Rattle.torus.specs.Ring.{next}
@@ -18,7 +19,7 @@ use Rattle.flow.specs.declared.Port.the-variants.{East, South}
 use Rattle.flow.specs.Plan.{Plan, flowAt, FlowOk}
 use Rattle.book.specs.Line.{W, N, Stage, waiting, placed, left, Line, standsIn, leftAt}
 use Rattle.book.specs.Book.{Book}
-use Rattle.book.specs.Cycle.{samePort, sent, enters, lowest, leaves, moveStage}
+use Rattle.book.specs.Cycle.{sent, enters, lowest, leaves, moveStage}
 use Rattle.book.proofs.Path.{Sound, placed-on}
 
 -- a packet at the router in column x′ and row y′ that takes port o′ is sent by port o of the router in column x and row y
