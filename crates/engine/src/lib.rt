@@ -7,53 +7,90 @@ ghost use lib.ListN.{length, take};
 ghost use lib.Seq.{sets};
 ghost use Rattle.state.specs.Words.{stateWords};
 ghost use Rattle.state.specs.Read.{sxIn, syIn, countIn, clockIn, stateOf};
-ghost use Rattle.state.specs.Forms.{sizeIn, stateNumber};
+ghost use Rattle.state.specs.Forms.{stateNumber};
 ghost use Rattle.state.specs.Outcome.{outcome, over};
 ghost use Rattle.state.proofs.Forms.{StateFacts};
 ghost use Rattle.entry.specs.Entrants.{Entrants};
-ghost use Rattle.engine.specs.Next.{begun, nextWords, offerNumber};
+ghost use Rattle.routing.specs.Walk.{registersIn, pushedAll};
+ghost use Rattle.engine.specs.Next.{nextWords, offerNumber};
 ghost use Rattle.cycle.specs.Step.{exits, stepState, stepDelivers};
 ghost use Rattle.cycle.specs.Calls.{exitCount, offerOn, stepNumber, stepOutcome, stepOn};
 ghost use Rattle.cycle.specs.Offer.{offerState};
 
-// Copies the first n words.
-fn copy(from: &[u32], to: &mut [u32], n: usize)
-    requires { ⌜ (n ≤ length (now from)) × (n ≤ length (now to)) ⌝ }
-    ensures { λ _. ⌜ now (to .exit) ≡ over (take n (now (from .entry))) (now (to .entry)) ⌝ }
+// Copies n words to a place.
+fn copy(from: &[u32], to: &mut [u32], at: usize, n: usize)
+    requires { ⌜ (n ≤ length (now from)) × (at + n ≤ length (now to)) ⌝ }
+    ensures { λ _. ⌜ now (to .exit) ≡ sets (now (to .entry)) at (take n (now (from .entry))) ⌝ }
 {
     for i in 0..n {
-        to[i] = from[i];
+        to[at + i] = from[i];
     }
 }
 
-// Copies header and flows, with the next clock.
-fn begin_next(state: &[u32], next: &mut [u32])
-    requires { ⌜ StateFacts (now state) ⌝ }
-    requires { ⌜ (clockIn (now state) < 4294967295) × (sizeIn (now state) ≤ length (now next)) ⌝ }
-    ensures { λ _. ⌜ now (next .exit) ≡ begun (now (state .entry)) (now (next .entry)) ⌝ }
-{
-    let flows = state[2] as usize;
-    copy(state, next, state::HEADER_SIZE + state::FLOW_SIZE * flows);
-    next[3] = state[3] + 1;
-}
-
-// The words of the state after a cycle; the exits' words, and their count.
-fn fill_next(state: &[u32], entrants: &mut [u32], next: &mut [u32], delivery: &mut [u32]) -> u32
+// Who enters, the next registers and the exits' words; the count of exits.
+fn find_next(
+    state: &[u32],
+    entrants: &mut [u32],
+    registers: &mut [u32],
+    delivery: &mut [u32],
+) -> u32
     requires { ⌜ StateFacts (now state) ⌝ }
     requires { ⌜ clockIn (now state) < 4294967295 ⌝ }
     requires { ⌜ Entrants (stateOf (now state)) 0 (now entrants) ⌝ }
-    requires { ⌜ sizeIn (now state) ≤ length (now next) ⌝ }
+    requires { ⌜ registersIn (now state) ≤ length (now registers) ⌝ }
     requires { ⌜ 5 * (sxIn (now state) * syIn (now state)) ≤ length (now delivery) ⌝ }
-    ensures { λ _. ⌜ now (next .exit) ≡ nextWords (now (state .entry)) (now (next .entry)) ⌝ }
+    ensures { λ _. ⌜ Entrants (stateOf (now (state .entry))) (countIn (now (state .entry))) (now (entrants .exit)) ⌝ }
+    ensures { λ _. ⌜ now (registers .exit) ≡ pushedAll (now (state .entry)) (now (registers .entry)) ⌝ }
     ensures { λ r. ⌜ r ≡ exitCount (stateOf (now (state .entry))) ⌝ }
     ensures { λ _. ⌜ now (delivery .exit) ≡ sets (now (delivery .entry)) 0 (stepDelivers (stateOf (now (state .entry)))) ⌝ }
 {
-    begin_next(state, next);
-    entry::walk_flows(state, entrants, next);
-    routing::route_all(state, entrants, next, delivery)
+    entry::find_entrants(state, entrants);
+    routing::route_all(state, entrants, registers, delivery)
 }
 
-// One cycle: the state's words, the exits' words, and their count.
+// Writes the next tallies, clock and registers.
+fn store_next(state: &mut [u32], entrants: &[u32], registers: &[u32])
+    requires { ⌜ StateFacts (now state) ⌝ }
+    requires { ⌜ clockIn (now state) < 4294967295 ⌝ }
+    requires { ⌜ Entrants (stateOf (now state)) (countIn (now state)) (now entrants) ⌝ }
+    requires { ⌜ registersIn (now state) ≤ length (now registers) ⌝ }
+    ensures { λ _. ⌜ now (state .exit) ≡ nextWords (now (state .entry)) (now (registers .entry)) ⌝ }
+{
+    let routers = (state[0] * state[1]) as usize;
+    let flows = state[2] as usize;
+    let clock = state[3];
+    entry::tally_flows(state, entrants);
+    state[3] = clock + 1;
+    copy(
+        registers,
+        state,
+        state::HEADER_SIZE + state::FLOW_SIZE * flows,
+        state::ROUTER_SIZE * routers,
+    );
+}
+
+// One cycle, with room for the entrants and for the next registers.
+fn advance_in(
+    state: &mut [u32],
+    entrants: &mut [u32],
+    registers: &mut [u32],
+    delivery: &mut [u32],
+) -> u32
+    requires { ⌜ stateNumber (now state) ≡ 0 ⌝ }
+    requires { ⌜ clockIn (now state) < 4294967295 ⌝ }
+    requires { ⌜ Entrants (stateOf (now state)) 0 (now entrants) ⌝ }
+    requires { ⌜ registersIn (now state) ≤ length (now registers) ⌝ }
+    requires { ⌜ 5 * (sxIn (now state) * syIn (now state)) ≤ length (now delivery) ⌝ }
+    ensures { λ _. ⌜ now (state .exit) ≡ over (stateWords (stepState (stateOf (now (state .entry))))) (now (state .entry)) ⌝ }
+    ensures { λ r. ⌜ r ≡ exitCount (stateOf (now (state .entry))) ⌝ }
+    ensures { λ _. ⌜ now (delivery .exit) ≡ over (stepDelivers (stateOf (now (state .entry)))) (now (delivery .entry)) ⌝ }
+{
+    let exits = find_next(state, entrants, registers, delivery);
+    store_next(state, entrants, registers);
+    exits
+}
+
+// One cycle: the state's words, the exits' words, and their count. A small torus gets little room.
 fn advance(state: &mut [u32], delivery: &mut [u32]) -> u32
     requires { ⌜ stateNumber (now state) ≡ 0 ⌝ }
     requires { ⌜ clockIn (now state) < 4294967295 ⌝ }
@@ -62,12 +99,20 @@ fn advance(state: &mut [u32], delivery: &mut [u32]) -> u32
     ensures { λ r. ⌜ r ≡ exitCount (stateOf (now (state .entry))) ⌝ }
     ensures { λ _. ⌜ now (delivery .exit) ≡ over (stepDelivers (stateOf (now (state .entry)))) (now (delivery .entry)) ⌝ }
 {
+    let routers = state[0] * state[1];
+    if routers <= 16 {
+        let mut entrants = [0u32; 16];
+        let mut registers = [0u32; state::ROUTER_SIZE * 16];
+        return advance_in(state, &mut entrants, &mut registers, delivery);
+    }
+    if routers <= 64 {
+        let mut entrants = [0u32; 64];
+        let mut registers = [0u32; state::ROUTER_SIZE * 64];
+        return advance_in(state, &mut entrants, &mut registers, delivery);
+    }
     let mut entrants = [0u32; 256];
-    let mut next = [0u32; state::MOST_STATE];
-    let exits = fill_next(state, &mut entrants, &mut next, delivery);
-    let size = forms::size_in(state);
-    copy(&next, state, size);
-    exits
+    let mut registers = [0u32; state::ROUTER_SIZE * 256];
+    advance_in(state, &mut entrants, &mut registers, delivery)
 }
 
 // A packet more waits at flow f.

@@ -1,9 +1,10 @@
 -- The entrants of a state's clients, in the order of its routers. Rests on Entrant and the facts of a state.
 use mathlib.Core.Bool.{true}
 use mathlib.Core.List.{List}
-use mathlib.Core.Path.{_≡_, _∙_}
+use mathlib.Core.Path.{_≡_, sym, _∙_}
 use Prim.Native.Nat.{ℕ, _+_, _<_}
 use native.Mathlib.Omega.{arith}
+use lib.Dec.{eqb}
 use lib.ListN.{length, getD, set}
 use Rattle.laws.specs.Grid.{cellIndex}
 use Rattle.laws.proofs.Grid.{cell-below}
@@ -13,7 +14,7 @@ use Rattle.state.specs.Read.{sxIn, syIn, countIn, planIn, stateOf}
 use Rattle.state.proofs.Forms.{StateFacts}
 use Rattle.cycle.specs.Entry.{enters}
 use Rattle.entry.specs.Entrants.{entrant, Entrants}
-use Rattle.entry.proofs.Entrant.{xsOf, ysOf, entrants-mark}
+use Rattle.entry.proofs.Entrant.{xsOf, ysOf, enters-shown, entrants-mark}
 use Rattle.cycle.proofs.Facts.{flow-ok}
 
 module _ (w : List ℕ) (s : StateFacts w) where
@@ -28,6 +29,12 @@ module _ (w : List ℕ) (s : StateFacts w) where
       → getD l (cellIndex (sxIn w) x y) 0 ≡ entrant (stateOf w) x y n
   unfolding stateOf planIn
   entrant-found n l e x y h k = e .at x y h k
+
+  -- after all flows the entrant at a flow's client says whether the flow enters
+  pub entered-found : (l : List ℕ) → Entrants (stateOf w) (countIn w) l → (f : ℕ) → f < countIn w
+      → eqb (getD l (cellIndex (sxIn w) (xsOf (stateOf w) f) (ysOf (stateOf w) f)) 0) (f + 1) ≡ enters (stateOf w) f
+  entered-found l e f h =
+      rw (entrant-found (countIn w) l e _ _ (flow-ok w s f h .xs-on) (flow-ok w s f h .ys-on)) (sym (enters-shown (stateOf w) f (countIn w) h))
 
   -- the place of flow f's client among the entrants
   module _ (f : ℕ) (below : f < countIn w) (l : List ℕ) (e : Entrants (stateOf w) f l)

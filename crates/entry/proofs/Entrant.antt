@@ -1,9 +1,10 @@
 -- The walk over the flows finds who enters: at most one flow at each client. Rests on specs/Entry and specs/Walk.
 use mathlib.Core.Bool.{Bool, true, false, cond, not, _&&_, _||_, and-true, and-false, and-comm, false≢true}
 use mathlib.Core.Logic.{_⊎_, inl, inr}
-use mathlib.Core.Path.{_≡_, refl, sym, _∙_}
+use mathlib.Core.Path.{_≡_, refl, sym, ap, _∙_}
 use Prim.Native.Nat.{ℕ, zero, suc, _+_, _*_, _≤_, _<_}
 use native.Mathlib.Decide.{ℕ-discrete}
+use native.Mathlib.Nat.{eq-or-lt-of-le, le-of-suc-le-suc}
 use native.Mathlib.Numerals.{add-one}
 use native.Mathlib.Omega.{arith}
 use borrow.Author.Tests.{eq-eqb, ne-eqb, eqb-true, ltb-true}
@@ -88,6 +89,29 @@ module _ (s : State) where
       below : (e : ℕ) (b : Bool) → e ≤ n → cond (eqb e 0) (cond b (n + 1) 0) e ≤ suc n
       below e true h = elim (test (eqb e 0)) [ inl t ↦ rw t (omega arith) | inr t ↦ rw t (omega arith) ]
       below e false h = elim (test (eqb e 0)) [ inl t ↦ rw t (omega arith) | inr t ↦ rw t (omega arith) ]
+
+  -- flow f is its client's entrant, after the turns of later flows too, if it enters
+  entrant-later : (x y f n : ℕ) → f < n → eqb (entrant s x y n) (f + 1) ≡ eqb (entrant s x y (f + 1)) (f + 1)
+  unfolding entrant
+  entrant-later x y f zero h = absurd (omega arith)
+  entrant-later x y f (suc n) h =
+      elim (eq-or-lt-of-le (le-of-suc-le-suc h)) [
+        | inl last ↦ rw last (ap (λ m. eqb (entrant s x y m) (n + 1)) (sym (add-one n)))
+        | inr later ↦ stays (entrant s x y n) (isClient s x y n && ready s n) later ∙ entrant-later x y f n later
+      ]
+    where
+      stays : (e : ℕ) (b : Bool) → f < n → eqb (cond (eqb e 0) (cond b (n + 1) 0) e) (f + 1) ≡ eqb e (f + 1)
+      stays zero true l = ne-eqb (n + 1) (f + 1) (λ q. omega arith) ∙ sym (ne-eqb 0 (f + 1) (λ q. omega arith))
+      stays zero false l = refl
+      stays (suc e) b l = rw (ne-eqb (suc e) 0 (λ q. omega arith))
+
+  pub enters-shown : (f n : ℕ) → f < n → enters s f ≡ eqb (entrant s (xsOf f) (ysOf f) n) (f + 1)
+  enters-shown f n h =
+      rw (entrant-later (xsOf f) (ysOf f) f n h, entrant-here f) (shown (enters s f) (entrant s (xsOf f) (ysOf f) f) (entrant-below (xsOf f) (ysOf f) f))
+    where
+      shown : (b : Bool) (e : ℕ) → e ≤ f → b ≡ eqb (cond b (f + 1) e) (f + 1)
+      shown true e h = sym (eq-eqb (f + 1) (f + 1) refl)
+      shown false e h = sym (ne-eqb e (f + 1) (λ q. omega arith))
 
   -- a client sends its entrant's packet
   pub client-walk : (x y : ℕ) (port : Port) (n : ℕ) → clientBelow s x y port n ≡ sendsBy s port (entrant s x y n)

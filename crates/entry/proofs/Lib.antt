@@ -1,3 +1,4 @@
 -- The laws of entry.
 pub mod Entrant
 pub mod Clients
+pub mod Tally

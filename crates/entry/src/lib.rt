@@ -1,17 +1,18 @@
-// Who enters: one walk over the flows, with their next tallies. Rests on cycle.
+// Who enters, and the flows' next tallies: two walks over the flows. Rests on cycle.
 use flow::Flow;
 use flow::Port;
 use state::Tally;
 ghost use mathlib.Core.Path.{_≡_};
 ghost use mathlib.Core.Bool.{true};
 ghost use Prim.Native.Nat.{_+_, _*_, _<_, _≤_};
-ghost use lib.ListN.{length};
+ghost use lib.Dec.{eqb};
+ghost use lib.ListN.{length, getD};
+ghost use Rattle.laws.specs.Grid.{cellIndex};
 ghost use Rattle.laws.specs.Turns.{turns};
 ghost use Rattle.flow.specs.Plan.{FlowOk};
 ghost use Rattle.state.specs.Read.{sxIn, syIn, countIn, clockIn, stateOf};
-ghost use Rattle.state.specs.Forms.{sizeIn};
 ghost use Rattle.state.proofs.Forms.{StateFacts};
-ghost use Rattle.cycle.specs.Entry.{ready, enters};
+ghost use Rattle.cycle.specs.Entry.{ready};
 ghost use Rattle.entry.specs.Entrants.{openFor, tallyAfter, Entrants, tallied};
 
 // The flow's port at its client's router is open.
@@ -75,57 +76,60 @@ fn tally_after(flow: Flow, t: Tally, enters: bool) -> Tally
     }
 }
 
-// Whether flow f enters, with the entrants of the flows below it; if it does, it is its client's entrant.
-fn enter(state: &[u32], f: u32, entrants: &mut [u32]) -> bool
+// Flow f's turn: if it enters, with the entrants of the flows below it, it is its client's entrant.
+fn enter(state: &[u32], f: u32, entrants: &mut [u32])
     requires { ⌜ StateFacts (now state) ⌝ }
     requires { ⌜ f < countIn (now state) ⌝ }
     requires { ⌜ Entrants (stateOf (now state)) f (now entrants) ⌝ }
-    ensures { λ r. ⌜ r ≡ enters (stateOf (now (state .entry))) f ⌝ }
     ensures { λ _. ⌜ Entrants (stateOf (now (state .entry))) (f + 1) (now (entrants .exit)) ⌝ }
 {
+    if !ready(state, f) {
+        return;
+    }
     let flow = cycle::flow_at(state, f);
     let client = cycle::router_index(state[0], flow.xs, flow.ys);
     if entrants[client] != 0 {
-        return false;
-    }
-    if !ready(state, f) {
-        return false;
+        return;
     }
     entrants[client] = f + 1;
-    true
 }
 
-// The turn of flow f: who enters, and the flow's next tally.
-fn flow_turn(state: &[u32], f: u32, entrants: &mut [u32], next: &mut [u32])
+// The entrants of all clients.
+pub fn find_entrants(state: &[u32], entrants: &mut [u32])
     requires { ⌜ StateFacts (now state) ⌝ }
-    requires { ⌜ (f < countIn (now state)) × (clockIn (now state) < 4294967295) ⌝ }
-    requires { ⌜ Entrants (stateOf (now state)) f (now entrants) ⌝ }
-    requires { ⌜ sizeIn (now state) ≤ length (now next) ⌝ }
-    ensures { λ _. ⌜ Entrants (stateOf (now (state .entry))) (f + 1) (now (entrants .exit)) ⌝ }
-    ensures { λ _. ⌜ now (next .exit) ≡ tallied (now (state .entry)) f (now (next .entry)) ⌝ }
-{
-    let flow = cycle::flow_at(state, f);
-    let tally = cycle::tally_at(state, f);
-    let enters = enter(state, f, entrants);
-    let after = tally_after(flow, tally, enters);
-    state::put_tally(
-        next,
-        state::HEADER_SIZE + state::FLOW_SIZE * (f as usize),
-        after,
-    );
-}
-
-// One walk over the flows: the entrants of all clients, and every flow's next tally.
-pub fn walk_flows(state: &[u32], entrants: &mut [u32], next: &mut [u32])
-    requires { ⌜ StateFacts (now state) ⌝ }
-    requires { ⌜ clockIn (now state) < 4294967295 ⌝ }
     requires { ⌜ Entrants (stateOf (now state)) 0 (now entrants) ⌝ }
-    requires { ⌜ sizeIn (now state) ≤ length (now next) ⌝ }
     ensures { λ _. ⌜ Entrants (stateOf (now (state .entry))) (countIn (now (state .entry))) (now (entrants .exit)) ⌝ }
-    ensures { λ _. ⌜ now (next .exit) ≡ turns (countIn (now (state .entry))) (tallied (now (state .entry))) (now (next .entry)) ⌝ }
 {
     let flows = state[2];
     for f in 0..flows {
-        flow_turn(state, f, entrants, next);
+        enter(state, f, entrants);
+    }
+}
+
+// Flow f is its client's entrant.
+fn entered(entrants: &[u32], sx: u32, flow: Flow, f: u32) -> bool
+    requires { ⌜ (sx ≤ 16) × ((flow .xs < sx) × (flow .ys < 16)) ⌝ }
+    requires { ⌜ (cellIndex sx (flow .xs) (flow .ys) < length (now entrants)) × (f < 256) ⌝ }
+    ensures { λ r. ⌜ r ≡ eqb (getD (now (entrants .entry)) (cellIndex sx (flow .xs) (flow .ys)) 0) (f + 1) ⌝ }
+{
+    let client = cycle::router_index(sx, flow.xs, flow.ys);
+    entrants[client] == f + 1
+}
+
+// Every flow's next tally, by the entrants of all clients.
+pub fn tally_flows(state: &mut [u32], entrants: &[u32])
+    requires { ⌜ StateFacts (now state) ⌝ }
+    requires { ⌜ clockIn (now state) < 4294967295 ⌝ }
+    requires { ⌜ Entrants (stateOf (now state)) (countIn (now state)) (now entrants) ⌝ }
+    ensures { λ _. ⌜ now (state .exit) ≡ turns (countIn (now (state .entry))) (tallied (now (state .entry))) (now (state .entry)) ⌝ }
+{
+    let sx = state[0];
+    let flows = state[2];
+    for f in 0..flows {
+        let at = state::HEADER_SIZE + state::FLOW_SIZE * (f as usize);
+        let flow = state::flow_in(state, at);
+        let tally = state::tally_in(state, at);
+        let enters = entered(entrants, sx, flow, f);
+        state::put_tally(state, at, tally_after(flow, tally, enters));
     }
 }

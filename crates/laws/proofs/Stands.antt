@@ -74,6 +74,14 @@ module _ {A : Type 0} (d : A) where
         same = λ j h. List·getD-append l r d (at + j) (omega arith) ∙ s .same j h;
       }
 
+  -- among the first n entries
+  pub stands-take : (l : List A) (n at : ℕ) (b : List A) → n ≤ length l → at + length b ≤ n → Stands d l at b → Stands d (take n l) at b
+  stands-take l n at b h k s =
+      record {
+        fits = omega (arith, length-take-le n l h);
+        same = λ j m. getD-take n l (at + j) d (omega arith) ∙ s .same j m;
+      }
+
   -- a part of a part
   pub stands-in : (l a b : List A) (at k : ℕ) → Stands d l at a → Stands d a k b → Stands d l (at + k) b
   stands-in l a b at k s t =

@@ -30,22 +30,21 @@ other l at i r q h s = stands-other 0 l at (registerWords r) i (registerWords q)
 put : (l : List ℕ) (at : ℕ) (r : Register) → at + registerSize ≤ length l → Stands 0 (sets l at (registerWords r)) at (registerWords r)
 put l at r h = stands-sets 0 l at (registerWords r) (rw (length-register r) h)
 
-module _ (base : ℕ) where
-  wests : (i k : ℕ) → i ≢ k → Apart (base + routerSize * i) (base + routerSize * k)
-  wests i k ne = elim (decLe i k) [ yes h ↦ inl (omega arith) | no h ↦ inr (omega arith) ]
+wests : (i k : ℕ) → i ≢ k → Apart (routerSize * i) (routerSize * k)
+wests i k ne = elim (decLe i k) [ yes h ↦ inl (omega arith) | no h ↦ inr (omega arith) ]
 
-  norths : (i k : ℕ) → i ≢ k → Apart (base + routerSize * i + registerSize) (base + routerSize * k + registerSize)
-  norths i k ne = elim (decLe i k) [ yes h ↦ inl (omega arith) | no h ↦ inr (omega arith) ]
+norths : (i k : ℕ) → i ≢ k → Apart (routerSize * i + registerSize) (routerSize * k + registerSize)
+norths i k ne = elim (decLe i k) [ yes h ↦ inl (omega arith) | no h ↦ inr (omega arith) ]
 
-  west-north : (i k : ℕ) → Apart (base + routerSize * i) (base + routerSize * k + registerSize)
-  west-north i k = elim (decLe i k) [ yes h ↦ inl (omega arith) | no h ↦ inr (omega arith) ]
+west-north : (i k : ℕ) → Apart (routerSize * i) (routerSize * k + registerSize)
+west-north i k = elim (decLe i k) [ yes h ↦ inl (omega arith) | no h ↦ inr (omega arith) ]
 
-  north-west : (i k : ℕ) → Apart (base + routerSize * i + registerSize) (base + routerSize * k)
-  north-west i k = elim (decLe k i) [ yes h ↦ inr (omega arith) | no h ↦ inl (omega arith) ]
+north-west : (i k : ℕ) → Apart (routerSize * i + registerSize) (routerSize * k)
+north-west i k = elim (decLe k i) [ yes h ↦ inr (omega arith) | no h ↦ inl (omega arith) ]
 
-module _ (base sx sy : ℕ) (east south : ℕ → ℕ → Register) where
+module _ (sx sy : ℕ) (east south : ℕ → ℕ → Register) where
   abbrev pub pushOne : (x y : ℕ) → List ℕ → List ℕ
-  pushOne x y l = push base sx sy (east x y) (south x y) x y l
+  pushOne x y l = push sx sy (east x y) (south x y) x y l
 
   abbrev pub pushRow : ℕ → List ℕ → List ℕ
   pushRow y l = turns sx (λ x. pushOne x y) l
@@ -55,14 +54,14 @@ module _ (base sx sy : ℕ) (east south : ℕ → ℕ → Register) where
 
   -- the registers are all there
   abbrev Room : List ℕ → Type 0
-  Room l = base + routerSize * (sx * sy) ≤ length l
+  Room l = routerSize * (sx * sy) ≤ length l
 
   -- the W register of the cell with index i, and its N register, hold r
   abbrev West : ℕ → Register → List ℕ → Type 0
-  West i r l = Stands 0 l (base + routerSize * i) (registerWords r)
+  West i r l = Stands 0 l (routerSize * i) (registerWords r)
 
   abbrev North : ℕ → Register → List ℕ → Type 0
-  North i r l = Stands 0 l (base + routerSize * i + registerSize) (registerWords r)
+  North i r l = Stands 0 l (routerSize * i + registerSize) (registerWords r)
 
   room : (x y : ℕ) (l : List ℕ) → Room l → Room (pushOne x y l)
   room x y l h = rw (length-sets, length-sets) h
@@ -70,11 +69,11 @@ module _ (base sx sy : ℕ) (east south : ℕ → ℕ → Register) where
   -- a router leaves every other W register, and every other N register
   west-stays : (x y : ℕ) (l : List ℕ) (i : ℕ) (r : Register) → i ≢ cellIndex sx (next sx x) y → West i r l → West i r (pushOne x y l)
   west-stays x y l i r ne w =
-      other _ _ _ r (south x y) (west-north base i (cellIndex sx x (next sy y))) (other l _ _ r (east x y) (wests base i _ ne) w)
+      other _ _ _ r (south x y) (west-north i (cellIndex sx x (next sy y))) (other l _ _ r (east x y) (wests i _ ne) w)
 
   north-stays : (x y : ℕ) (l : List ℕ) (i : ℕ) (r : Register) → i ≢ cellIndex sx x (next sy y) → North i r l → North i r (pushOne x y l)
   north-stays x y l i r ne w =
-      other _ _ _ r (south x y) (norths base i _ ne) (other l _ _ r (east x y) (north-west base i (cellIndex sx (next sx x) y)) w)
+      other _ _ _ r (south x y) (norths i _ ne) (other l _ _ r (east x y) (north-west i (cellIndex sx (next sx x) y)) w)
 
   -- it fills the W register to its east and the N register to its south
   fills : (x y : ℕ) (l : List ℕ) → x < sx → y < sy → Room l
@@ -82,7 +81,7 @@ module _ (base sx sy : ℕ) (east south : ℕ → ℕ → Register) where
   fills x y l h k o =
       let a = cell-below sx sy (next sx x) y (next-below sx x h) k in
       let b = cell-below sx sy x (next sy y) h (next-below sy y k) in (
-        other _ _ _ (east x y) (south x y) (west-north base _ (cellIndex sx x (next sy y))) (put l _ (east x y) (omega arith)),
+        other _ _ _ (east x y) (south x y) (west-north _ (cellIndex sx x (next sy y))) (put l _ (east x y) (omega arith)),
         put _ _ (south x y) (rw length-sets (omega arith)),
       )
 
@@ -122,23 +121,13 @@ module _ (base sx sy : ℕ) (east south : ℕ → ℕ → Register) where
 
   -- afterwards each cell holds what came from the west and from the north
   pub pushed-cell : (l : List ℕ) → Room l → (x y : ℕ) → x < sx → y < sy
-      → Stands 0 (pushAll l) (base + routerSize * cellIndex sx x y) (registerWords (east (previous sx x) y) ++ registerWords (south x (previous sy y)))
+      → Stands 0 (pushAll l) (routerSize * cellIndex sx x y) (registerWords (east (previous sx x) y) ++ registerWords (south x (previous sy y)))
   pushed-cell l o x y h k =
       let w = all-fill l o y k (previous sx x) (previous-below sx x h) .0 in
       let n = all-fill l o (previous sy y) (previous-below sy y k) x h .1 in
       stands-append 0 _ (registerWords (east (previous sx x) y)) (registerWords (south x (previous sy y))) _
       (rw (next-previous sx x h) at w)
       (rw (length-register (east (previous sx x) y)) (rw (next-previous sy y k) at n))
-
-  -- what lies before the registers stays
-  pub pushed-before : (l : List ℕ) (at : ℕ) (b : List ℕ) → at + length b ≤ base → Stands 0 l at b → Stands 0 (pushAll l) at b
-  pushed-before l at b h s =
-      turns-keep sy pushRow (λ l. Stands 0 l at b)
-      (λ y l k s. turns-keep sx (λ x. pushOne x y) (λ l. Stands 0 l at b)
-      (λ x l m s. stands-other 0 _ at b (cellPlace base sx x (next sy y) + registerSize) (registerWords (south x y))
-      (stands-other 0 l at b (cellPlace base sx (next sx x) y) (registerWords (east x y)) s (inl (omega arith))) (inl (omega arith)))
-      sx l (omega arith) s)
-      sy l (omega arith) s
 
   pub length-pushed : (l : List ℕ) → length (pushAll l) ≡ length l
   length-pushed l =

@@ -13,30 +13,32 @@ use Rattle.state.specs.declared.Register.the-variants.{Empty}
 use Rattle.state.specs.Layout.{registerSize, routerSize}
 use Rattle.state.specs.State.{State}
 use Rattle.state.specs.Words.{registerWords}
-use Rattle.state.specs.Read.{sxIn, syIn, routerIn, stateOf}
+use Rattle.state.specs.Read.{sxIn, syIn, stateOf}
 use Rattle.cycle.specs.Step.{eastward, southward, exits, delivered}
 
--- where the registers of the router in column x and row y stand, with the first at `base`
-abbrev pub cellPlace : (base sx x y : ℕ) → ℕ
-cellPlace base sx x y = base + routerSize * cellIndex sx x y
+-- where the registers of the router in column x and row y stand among those of all routers
+abbrev pub cellPlace : (sx x y : ℕ) → ℕ
+cellPlace sx x y = routerSize * cellIndex sx x y
 
--- the words l, after the router in column x and row y has sent these E and S
-abbrev pub push : (base sx sy : ℕ) → (east south : Register) → (x y : ℕ) → List ℕ → List ℕ
-push base sx sy east south x y l =
-    sets (sets l (cellPlace base sx (next sx x) y) (registerWords east))
-    (cellPlace base sx x (next sy y) + registerSize)
-    (registerWords south)
+-- how many words the registers of all routers are
+abbrev pub registersIn : (w : List ℕ) → ℕ
+registersIn w = routerSize * (sxIn w * syIn w)
+
+-- the registers l, after the router in column x and row y has sent these E and S
+abbrev pub push : (sx sy : ℕ) → (east south : Register) → (x y : ℕ) → List ℕ → List ℕ
+push sx sy east south x y l =
+    sets (sets l (cellPlace sx (next sx x) y) (registerWords east)) (cellPlace sx x (next sy y) + registerSize) (registerWords south)
 
 -- what reaches the N register to the south: nothing if it exits
 abbrev pub reaches : State → (x y : ℕ) → Register
 reaches s x y = cond (exits s x y) Empty (southward s x y)
 
--- the words l, after the router in column x and row y of the state with words w has sent this E, or S
+-- the registers l, after the router in column x and row y of the state with words w has sent this E, or S
 unfoldable pub pushEast : (w : List ℕ) → (x y : ℕ) → Register → List ℕ → List ℕ
-pushEast w x y east l = sets l (routerIn w (next (sxIn w) x) y) (registerWords east)
+pushEast w x y east l = sets l (cellPlace (sxIn w) (next (sxIn w) x) y) (registerWords east)
 
 unfoldable pub pushSouth : (w : List ℕ) → (x y : ℕ) → Register → List ℕ → List ℕ
-pushSouth w x y south l = sets l (routerIn w x (next (syIn w) y) + registerSize) (registerWords south)
+pushSouth w x y south l = sets l (cellPlace (sxIn w) x (next (syIn w) y) + registerSize) (registerWords south)
 
 -- after all that this router sends
 unfoldable pub pushed : (w : List ℕ) → (x y : ℕ) → List ℕ → List ℕ

@@ -12,10 +12,9 @@ ghost use Rattle.laws.specs.Turns.{turns};
 ghost use Rattle.state.specs.declared.Register.the-variants.{Empty};
 ghost use Rattle.state.specs.Words.{flowOf};
 ghost use Rattle.state.specs.Read.{sxIn, syIn, countIn, clockIn, stateOf};
-ghost use Rattle.state.specs.Forms.{sizeIn};
 ghost use Rattle.state.proofs.Forms.{StateFacts};
 ghost use Rattle.entry.specs.Entrants.{entrant, Entrants};
-ghost use Rattle.routing.specs.Walk.{pushEast, pushSouth, pushed, pushedRow, pushedAll, rowExits, rowDelivers};
+ghost use Rattle.routing.specs.Walk.{registersIn, pushEast, pushSouth, pushed, pushedRow, pushedAll, rowExits, rowDelivers};
 ghost use Rattle.routing.specs.Sent.{sentBy, sentAt};
 ghost use Rattle.cycle.specs.Step.{exits, exitWords, delivered, stepDelivers};
 ghost use Rattle.cycle.specs.Calls.{exitCount};
@@ -95,22 +94,27 @@ fn sent_at(state: &[u32], x: u32, y: u32, entrants: &[u32]) -> Sent
 fn push_east(state: &[u32], x: u32, y: u32, east: Register, next: &mut [u32])
     requires { ⌜ StateFacts (now state) ⌝ }
     requires { ⌜ (x < sxIn (now state)) × (y < syIn (now state)) ⌝ }
-    requires { ⌜ (flowOf east < countIn (now state)) × (sizeIn (now state) ≤ length (now next)) ⌝ }
+    requires { ⌜ (flowOf east < countIn (now state)) × (registersIn (now state) ≤ length (now next)) ⌝ }
     ensures { λ _. ⌜ now (next .exit) ≡ pushEast (now (state .entry)) x y east (now (next .entry)) ⌝ }
 {
-    let at = cycle::router_place(state, torus::next(state[0], x), y);
-    state::put_register(next, at, east);
+    let sx = state[0];
+    let router = cycle::router_index(sx, torus::next(sx, x), y);
+    state::put_register(next, state::ROUTER_SIZE * router, east);
 }
 
 // Writes what goes S, and doesn't exit, to the N register to the south.
 fn push_south(state: &[u32], x: u32, y: u32, south: Register, next: &mut [u32])
     requires { ⌜ StateFacts (now state) ⌝ }
     requires { ⌜ (x < sxIn (now state)) × (y < syIn (now state)) ⌝ }
-    requires { ⌜ (flowOf south < countIn (now state)) × (sizeIn (now state) ≤ length (now next)) ⌝ }
+    requires { ⌜ (flowOf south < countIn (now state)) × (registersIn (now state) ≤ length (now next)) ⌝ }
     ensures { λ _. ⌜ now (next .exit) ≡ pushSouth (now (state .entry)) x y south (now (next .entry)) ⌝ }
 {
-    let at = cycle::router_place(state, x, torus::next(state[1], y));
-    state::put_register(next, at + 4, south);
+    let router = cycle::router_index(state[0], x, torus::next(state[1], y));
+    state::put_register(
+        next,
+        state::ROUTER_SIZE * router + state::REGISTER_SIZE,
+        south,
+    );
 }
 
 // What is left of a packet that goes S.
@@ -171,7 +175,7 @@ fn route(
     requires { ⌜ StateFacts (now state) ⌝ }
     requires { ⌜ (x < sxIn (now state)) × ((y < syIn (now state)) × (clockIn (now state) < 4294967295)) ⌝ }
     requires { ⌜ Entrants (stateOf (now state)) (countIn (now state)) (now entrants) ⌝ }
-    requires { ⌜ sizeIn (now state) ≤ length (now next) ⌝ }
+    requires { ⌜ registersIn (now state) ≤ length (now next) ⌝ }
     requires { ⌜ (count < 256) × (5 * count + 5 ≤ length (now delivery)) ⌝ }
     ensures { λ _. ⌜ now (next .exit) ≡ pushed (now (state .entry)) x y (now (next .entry)) ⌝ }
     ensures { λ r. ⌜ r ≡ count + one (exits (stateOf (now (state .entry))) x y) ⌝ }
@@ -198,7 +202,7 @@ fn route_row(
     requires { ⌜ StateFacts (now state) ⌝ }
     requires { ⌜ (y < syIn (now state)) × (clockIn (now state) < 4294967295) ⌝ }
     requires { ⌜ Entrants (stateOf (now state)) (countIn (now state)) (now entrants) ⌝ }
-    requires { ⌜ sizeIn (now state) ≤ length (now next) ⌝ }
+    requires { ⌜ registersIn (now state) ≤ length (now next) ⌝ }
     requires { ⌜ (count + sxIn (now state) ≤ 256) × (5 * (count + sxIn (now state)) ≤ length (now delivery)) ⌝ }
     ensures { λ _. ⌜ now (next .exit) ≡ pushedRow (now (state .entry)) y (now (next .entry)) ⌝ }
     ensures { λ r. ⌜ r ≡ count + rowExits (now (state .entry)) y ⌝ }
@@ -217,7 +221,7 @@ pub fn route_all(state: &[u32], entrants: &[u32], next: &mut [u32], delivery: &m
     requires { ⌜ StateFacts (now state) ⌝ }
     requires { ⌜ clockIn (now state) < 4294967295 ⌝ }
     requires { ⌜ Entrants (stateOf (now state)) (countIn (now state)) (now entrants) ⌝ }
-    requires { ⌜ sizeIn (now state) ≤ length (now next) ⌝ }
+    requires { ⌜ registersIn (now state) ≤ length (now next) ⌝ }
     requires { ⌜ 5 * (sxIn (now state) * syIn (now state)) ≤ length (now delivery) ⌝ }
     ensures { λ _. ⌜ now (next .exit) ≡ pushedAll (now (state .entry)) (now (next .entry)) ⌝ }
     ensures { λ r. ⌜ r ≡ exitCount (stateOf (now (state .entry))) ⌝ }
