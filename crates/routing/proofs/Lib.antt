@@ -2,3 +2,4 @@
 pub mod Flows
 pub mod Push
 pub mod Exits
+pub mod Idle

@@ -15,7 +15,7 @@ ghost use Rattle.state.specs.Read.{sxIn, syIn, countIn, clockIn, stateOf};
 ghost use Rattle.state.proofs.Forms.{StateFacts};
 ghost use Rattle.entry.specs.Entrants.{entrant, Entrants};
 ghost use Rattle.routing.specs.Walk.{registersIn, pushEast, pushSouth, pushed, pushedRow, pushedAll, rowExits, rowDelivers};
-ghost use Rattle.routing.specs.Sent.{sentBy, sentAt};
+ghost use Rattle.routing.specs.Sent.{sentBy, sentAt, idle};
 ghost use Rattle.cycle.specs.Step.{exits, exitWords, delivered, stepDelivers};
 ghost use Rattle.cycle.specs.Calls.{exitCount};
 
@@ -163,7 +163,7 @@ fn deliver(exits: bool, south: Register, clock: u32, delivery: &mut [u32], count
 }
 
 // The router in column x and row y: what it sends goes to its neighbours' next registers, or is delivered after `count` exits.
-fn route(
+fn route_packets(
     state: &[u32],
     x: u32,
     y: u32,
@@ -188,6 +188,53 @@ fn route(
     push_east(state, x, y, east, next);
     push_south(state, x, y, unless_exits(exits, south), next);
     deliver(exits, south, state[3], delivery, count)
+}
+
+// No packet stands at the router in column x and row y, nor enters there.
+fn is_idle(state: &[u32], x: u32, y: u32, entrants: &[u32]) -> bool
+    requires { ⌜ StateFacts (now state) ⌝ }
+    requires { ⌜ (x < sxIn (now state)) × (y < syIn (now state)) ⌝ }
+    requires { ⌜ Entrants (stateOf (now state)) (countIn (now state)) (now entrants) ⌝ }
+    ensures { λ r. ⌜ r ≡ idle (stateOf (now (state .entry))) x y ⌝ }
+{
+    let client = cycle::router_index(state[0], x, y);
+    if entrants[client] != 0 {
+        return false;
+    }
+    let cell = cycle::cell_at(state, x, y);
+    let west = cell.west;
+    if !cycle::is_empty(west) {
+        return false;
+    }
+    let north = cell.north;
+    cycle::is_empty(north)
+}
+
+// The same in one go if the router has nothing to send.
+fn route(
+    state: &[u32],
+    x: u32,
+    y: u32,
+    entrants: &[u32],
+    next: &mut [u32],
+    delivery: &mut [u32],
+    count: u32,
+) -> u32
+    requires { ⌜ StateFacts (now state) ⌝ }
+    requires { ⌜ (x < sxIn (now state)) × ((y < syIn (now state)) × (clockIn (now state) < 4294967295)) ⌝ }
+    requires { ⌜ Entrants (stateOf (now state)) (countIn (now state)) (now entrants) ⌝ }
+    requires { ⌜ registersIn (now state) ≤ length (now next) ⌝ }
+    requires { ⌜ (count < 256) × (5 * count + 5 ≤ length (now delivery)) ⌝ }
+    ensures { λ _. ⌜ now (next .exit) ≡ pushed (now (state .entry)) x y (now (next .entry)) ⌝ }
+    ensures { λ r. ⌜ r ≡ count + one (exits (stateOf (now (state .entry))) x y) ⌝ }
+    ensures { λ _. ⌜ now (delivery .exit) ≡ sets (now (delivery .entry)) (5 * count) (delivered (stateOf (now (state .entry))) x y) ⌝ }
+{
+    if is_idle(state, x, y, entrants) {
+        push_east(state, x, y, Register::Empty, next);
+        push_south(state, x, y, Register::Empty, next);
+        return count;
+    }
+    route_packets(state, x, y, entrants, next, delivery, count)
 }
 
 // The routers of row y, after `count` exits.
