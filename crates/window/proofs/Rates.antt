@@ -1,12 +1,13 @@
 -- Rivals whose rates fill the link leave no window: each keeps pace with one packet a period. Rests on specs/Rivals.
 use mathlib.Core.List.{List}
+use mathlib.Core.Logic.{inl, inr}
 use mathlib.Core.Path.{_≡_}
 use Prim.Native.Nat.{ℕ, zero, suc, _+_, _-_, _*_, _/_, _≤_, _<_}
-use native.Mathlib.Nat.{le-trans, mul-le-mul-left, mul-le-mul-right, le-of-mul-le-mul-left, mul-left-comm, mul-comm, add-mul, mul-add, div-mul-le-self, div-le-self}
+use native.Mathlib.Nat.{le-trans, eq-or-lt-of-le, le-of-suc-le-suc, mul-le-mul-left, mul-le-mul-right, le-of-mul-le-mul-left, mul-left-comm, mul-comm, add-mul, mul-add, div-mul-le-self}
 use native.Mathlib.Omega.{arith}
 use lib.ListN.{getD}
 use Rattle.laws.specs.Bounded.{sumBelow}
-use Rattle.laws.proofs.Sum.{sum-none, sum-more, sum-most}
+use Rattle.laws.proofs.Sum.{sum-none, sum-more}
 use Rattle.bucket.proofs.Curve.{curve-pace}
 use Rattle.window.specs.Rivals.{rivalWords, rivalShare, demandOf, wholeLink, rivalRate, ratesOf, RivalOk}
 
@@ -18,9 +19,17 @@ pub rates-more : (l : List ℕ) (n : ℕ) → ratesOf l (n + 1) ≡ ratesOf l n 
 unfolding ratesOf
 rates-more l n = sum-more _ n
 
-pub rates-most : (l : List ℕ) (n : ℕ) → ratesOf l n ≤ wholeLink * n
-unfolding ratesOf rivalRate
-rates-most l n = sum-most _ wholeLink n (λ k b. div-le-self wholeLink (getD l (rivalWords * k + 1) 0))
+-- more rivals have no lower rates
+pub rates-grow : (l : List ℕ) (n m : ℕ) → n ≤ m → ratesOf l n ≤ ratesOf l m
+unfolding ratesOf sumBelow
+rates-grow l n zero h =
+    let none : n ≡ 0 = omega arith in
+    rw none (omega arith)
+rates-grow l n (suc m) h =
+    elim (eq-or-lt-of-le h) [
+      | inl same ↦ rw same (omega arith)
+      | inr below ↦ omega (arith, rates-grow l n m (le-of-suc-le-suc below))
+    ]
 
 -- r parts of M for every P parts of c
 paced : (r P c t M : ℕ) → t ≤ c * P → r * P ≤ M → r * t ≤ M * c

@@ -25,7 +25,7 @@ demandOf l n t = sumBelow n (rivalShare l t)
 
 -- a link that is filled, in parts of a packet per cycle
 abbrev pub wholeLink : ℕ
-wholeLink = 4294967296
+wholeLink = 2147483648
 
 -- the rate of rival number k of the words l, in those parts
 unfoldable pub rivalRate : List ℕ → ℕ → ℕ

@@ -1,6 +1,7 @@
 // Conflicts, windows and flight bounds. Rests on flow and bucket.
 ghost use mathlib.Core.Path.{_≡_};
 ghost use Prim.Native.Nat.{_+_, _*_, _<_, _≤_};
+ghost use lib.Dec.{leb};
 ghost use lib.ListN.{length};
 ghost use Rattle.window.specs.Conflict.{Pair, conflict, conflictEast, conflictSouth};
 ghost use Rattle.window.specs.Window.{mostWindow, leastFrom, loneWait};
@@ -15,8 +16,8 @@ pub const MOST_WINDOW: u32 = 65535;
 
 // A rival is kept as three words: its burst, its period and its spread.
 pub const RIVAL_WORDS: usize = 3;
-// A link that is filled, in parts of a packet per cycle.
-const WHOLE_LINK: u64 = 4294967296;
+// A link that is filled, in parts of a packet per cycle: a word holds a sum of two.
+const WHOLE_LINK: u32 = 2147483648;
 
 // The words of 256 rivals.
 pub const MOST_RIVAL_WORDS: usize = 768;
@@ -108,25 +109,26 @@ fn demand(rivals: &[u32], n: usize, t: u32) -> u32
 }
 
 // The rate of rival number k.
-fn rival_rate(rivals: &[u32], k: usize) -> u64
+fn rival_rate(rivals: &[u32], k: usize) -> u32
     requires { ⌜ (rivalWords * k + 2 < length (now rivals)) × (RivalOk (now rivals) k) ⌝ }
     ensures { λ r. ⌜ (r ≡ rivalRate (now (rivals .entry)) k) × (r ≤ wholeLink) ⌝ }
 {
-    let at = RIVAL_WORDS * k;
-    let period = rivals[at + 1];
-    WHOLE_LINK / (period as u64)
+    WHOLE_LINK / rivals[RIVAL_WORDS * k + 1]
 }
 
-// The rates of the first n rivals.
-fn rates_of(rivals: &[u32], n: usize) -> u64
+// The rates of the first n rivals fill the link.
+fn fill_link(rivals: &[u32], n: usize) -> bool
     requires { ⌜ Rivals (now rivals) n ⌝ }
-    ensures { λ r. ⌜ r ≡ ratesOf (now (rivals .entry)) n ⌝ }
+    ensures { λ r. ⌜ r ≡ leb wholeLink (ratesOf (now (rivals .entry)) n) ⌝ }
 {
-    let mut sum = 0u64;
+    let mut sum = 0u32;
     for k in 0..n {
         sum += rival_rate(rivals, k);
+        if WHOLE_LINK <= sum {
+            return true;
+        }
     }
-    sum
+    false
 }
 
 // The search for the least window. Where the rivals leave none at t, none is left up to their demand.
@@ -152,7 +154,7 @@ pub fn least_window(rivals: &[u32], n: usize) -> Found
     requires { ⌜ Rivals (now rivals) n ⌝ }
     ensures { λ r. ⌜ r ≡ leastFrom (demandOf (now (rivals .entry)) n) mostWindow 1 ⌝ }
 {
-    if WHOLE_LINK <= rates_of(rivals, n) {
+    if fill_link(rivals, n) {
         return Found::Nothing;
     }
     search(rivals, n)

@@ -1,6 +1,7 @@
 -- `least_window`: rates that fill the link leave no window; otherwise the search finds it.
-use mathlib.Core.Path.{sym}
+use mathlib.Core.Path.{sym, _∙_}
 use borrow.Author.Needs.{needs}
+use borrow.Author.Tests.{leb-true}
 use Rattle.window.proofs.Least.{least-none}
 use Rattle.window.proofs.Rates.{filled}
 use Rattle.window.proofs.least_window.Statement.{statement}
@@ -8,7 +9,7 @@ use Rattle.window.proofs.least_window.Tie as tie
 
 returns : tie.Need-returns
 returns c =
-    let full = rw (c .before .rates-of .ensures) at (c .if1 .taken) in
+    let full = leb-true _ _ (sym (c .before .fill-link .ensures) ∙ c .if1 .taken) in
     sym (least-none _ _ 1 (λ t l m. filled _ _ t (c .before .before .before .pre .rival-ok) full l))
 
 pub least-window-spec : {M : Type 1} → statement M
