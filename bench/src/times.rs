@@ -1,10 +1,12 @@
 //! Times of one piece of work by two engines, alternating.
 
 use crate::loads::Case;
-use std::time::Instant;
+use std::time::{Duration, Instant};
 
 /// Turns that each engine gets. The best of them counts, since others share the machine.
 const TURNS: usize = 41;
+/// The least time of a turn: the work is done as often as that takes.
+const LEAST_TURN: Duration = Duration::from_micros(500);
 
 /// Nanoseconds per call. The work does a batch of so many calls each time.
 pub fn alternate(calls: usize, mut plain: impl FnMut(), mut archive: impl FnMut()) -> [f64; 2] {
@@ -12,9 +14,17 @@ pub fn alternate(calls: usize, mut plain: impl FnMut(), mut archive: impl FnMut(
     let works: [&mut dyn FnMut(); 2] = [&mut plain, &mut archive];
     for _ in 0..TURNS {
         for (which, best) in best.iter_mut().enumerate() {
+            let mut batches = 0;
             let began = Instant::now();
-            works[which]();
-            *best = best.min(began.elapsed().as_nanos() as f64 / calls as f64);
+            let spent = loop {
+                works[which]();
+                batches += 1;
+                let spent = began.elapsed();
+                if spent >= LEAST_TURN {
+                    break spent;
+                }
+            };
+            *best = best.min(spent.as_nanos() as f64 / (batches * calls) as f64);
         }
     }
     best

@@ -35,10 +35,10 @@ fn window(file: &File, f: usize) -> Option<u32> {
             rivals[count] = (spread, flow[4]);
             count += 1;
             burst += flow[5];
-            rates += (1 << 32) / flow[4] as u64;
+            rates += ((1 << 31) / flow[4]) as u64;
         }
     }
-    if rates >= 1 << 32 {
+    if rates >= 1 << 31 {
         return None;
     }
     let mut t = 1;
