@@ -78,7 +78,7 @@ module _ (w : List ℕ) (forms : stateNumber w ≡ 0) (l : List ℕ) (room : reg
   numbers f h = numbers-stand s w (state-again w forms) f (rw counted h)
 
   -- what every tally that is written leaves: the header, all plan numbers, and what lies past the state
-  pub record Whole (m : List ℕ) : Type 0 where
+  record Whole (m : List ℕ) : Type 0 where
     pub long : length m ≡ length w
     pub header : Stands 0 m 0 (headerWords (s .plan) (s .clock))
     pub plan-numbers : Numbers m

@@ -162,7 +162,27 @@ fn deliver(exits: bool, south: Register, clock: u32, delivery: &mut [u32], count
     count
 }
 
-// The router in column x and row y: what it sends goes to its neighbours' next registers, or is delivered after `count` exits.
+// No packet stands at the router in column x and row y, nor enters there.
+fn is_idle(state: &[u32], x: u32, y: u32, entrants: &[u32]) -> bool
+    requires { ⌜ StateFacts (now state) ⌝ }
+    requires { ⌜ (x < sxIn (now state)) × (y < syIn (now state)) ⌝ }
+    requires { ⌜ Entrants (stateOf (now state)) (countIn (now state)) (now entrants) ⌝ }
+    ensures { λ r. ⌜ r ≡ idle (stateOf (now (state .entry))) x y ⌝ }
+{
+    let client = cycle::router_index(state[0], x, y);
+    if entrants[client] != 0 {
+        return false;
+    }
+    let cell = cycle::cell_at(state, x, y);
+    let west = cell.west;
+    if !cycle::is_empty(west) {
+        return false;
+    }
+    let north = cell.north;
+    cycle::is_empty(north)
+}
+
+// The packets of the router in column x and row y go to its neighbours' next registers, or are delivered after `count` exits.
 fn route_packets(
     state: &[u32],
     x: u32,
@@ -190,27 +210,7 @@ fn route_packets(
     deliver(exits, south, state[3], delivery, count)
 }
 
-// No packet stands at the router in column x and row y, nor enters there.
-fn is_idle(state: &[u32], x: u32, y: u32, entrants: &[u32]) -> bool
-    requires { ⌜ StateFacts (now state) ⌝ }
-    requires { ⌜ (x < sxIn (now state)) × (y < syIn (now state)) ⌝ }
-    requires { ⌜ Entrants (stateOf (now state)) (countIn (now state)) (now entrants) ⌝ }
-    ensures { λ r. ⌜ r ≡ idle (stateOf (now (state .entry))) x y ⌝ }
-{
-    let client = cycle::router_index(state[0], x, y);
-    if entrants[client] != 0 {
-        return false;
-    }
-    let cell = cycle::cell_at(state, x, y);
-    let west = cell.west;
-    if !cycle::is_empty(west) {
-        return false;
-    }
-    let north = cell.north;
-    cycle::is_empty(north)
-}
-
-// The same in one go if the router has nothing to send.
+// The router in column x and row y, after `count` exits. An idle one empties its neighbours' next registers.
 fn route(
     state: &[u32],
     x: u32,
