@@ -3,6 +3,7 @@ use mathlib.Core.Bool.{Bool, true, false, cond}
 use mathlib.Core.List.{List, [], _∷_}
 use mathlib.Core.Path.{_≡_, refl, _∙_}
 use Prim.Native.Nat.{ℕ, zero, suc, _+_, _*_, _≤_}
+use native.Mathlib.Nat.{add-zero}
 use native.Mathlib.Numerals.{add-one}
 use native.Mathlib.Omega.{arith}
 use lib.ListN.{length, length-append}
@@ -59,6 +60,13 @@ module _ (walk : Walk) (next₀ delivery₀ : List ℕ) (count : ℕ) where
         done-is = omega (arith, w .done-is, sum-more (walk .exit) n);
         delivery-is = r ∙ rw (w .delivery-is, at, add-one) (sets-append delivery₀ (5 * count) (joinBelow n (walk .words)) (walk .words n));
       }
+
+  -- and with no exit
+  pub walked-quiet : (n : ℕ) (next delivery : List ℕ) (done : ℕ) → Walked walk next₀ delivery₀ count n next delivery done
+      → (next′ delivery′ : List ℕ) (done′ : ℕ) → next′ ≡ walk .push n next → done′ ≡ done → delivery′ ≡ delivery
+      → walk .exit n ≡ 0 → walk .words n ≡ [] → Walked walk next₀ delivery₀ count (n + 1) next′ delivery′ done′
+  walked-quiet n next delivery done w next′ delivery′ done′ p q r exit words =
+      walked-more n next delivery done w next′ delivery′ done′ p (rw (exit, add-zero) q) (rw words r)
 
 pub delivered-five : (s : State) (x y : ℕ) → length (delivered s x y) ≡ 5 * one (exits s x y)
 unfolding delivered atHome

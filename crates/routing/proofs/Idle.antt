@@ -1,19 +1,21 @@
--- A router with no packet sends none. Rests on the laws of entry.
+-- A router with no packet sends none and delivers none. Rests on the laws of entry.
 use mathlib.Core.Bool.{true, _&&_, false≢true}
+use mathlib.Core.List.{[]}
 use mathlib.Core.Path.{_≡_, refl}
 use Prim.Native.Nat.{ℕ}
 use borrow.Author.Tests.{eqb-true}
 use lib.Dec.{eqb}
 use lib.ListN.{length}
+use Rattle.laws.specs.Count.{one}
 use Rattle.laws.proofs.Cases.{and-true}
 use Rattle.flow.specs.declared.Port.{Port}
 use Rattle.flow.specs.declared.Port.the-variants.{East, South}
 use Rattle.state.specs.declared.Register.{Register}
 use Rattle.state.specs.declared.Register.the-variants.{Empty, Packet}
 use Rattle.state.specs.State.{State, cellAt}
-use Rattle.cycle.specs.Router.{isEmpty, turnsSouth, sentEast, sentSouth}
+use Rattle.cycle.specs.Router.{isEmpty, turnsSouth, atHome, sentEast, sentSouth}
 use Rattle.cycle.specs.Entry.{clientSends}
-use Rattle.cycle.specs.Step.{eastward, southward}
+use Rattle.cycle.specs.Step.{eastward, southward, exits, delivered}
 use Rattle.entry.specs.Entrants.{entrant, sendsBy}
 use Rattle.entry.proofs.Entrant.{client-walk}
 use Rattle.routing.specs.Sent.{idle}
@@ -46,3 +48,12 @@ module _ (s : State) (x y : ℕ) (h : idle s x y ≡ true) where
   pub idle-south : southward s x y ≡ Empty
   unfolding southward sentSouth turnsSouth
   idle-south = rw (west, north, client South)
+
+  -- it delivers nothing
+  pub idle-exits : one (exits s x y) ≡ 0
+  unfolding atHome
+  idle-exits = rw idle-south
+
+  pub idle-delivers : delivered s x y ≡ []
+  unfolding delivered atHome
+  idle-delivers = rw idle-south

@@ -2,7 +2,7 @@
 use flow::Port;
 use state::Register;
 ghost use mathlib.Core.Path.{_≡_};
-ghost use mathlib.Core.Bool.{cond};
+ghost use mathlib.Core.Bool.{true, cond};
 ghost use mathlib.Core.List.{[]};
 ghost use Prim.Native.Nat.{_+_, _*_, _<_, _≤_};
 ghost use lib.ListN.{length};
@@ -182,8 +182,20 @@ fn is_idle(state: &[u32], x: u32, y: u32, entrants: &[u32]) -> bool
     cycle::is_empty(north)
 }
 
-// The packets of the router in column x and row y go to its neighbours' next registers, or are delivered after `count` exits.
-fn route_packets(
+// An idle router empties its neighbours' next registers.
+fn pass_idle(state: &[u32], x: u32, y: u32, next: &mut [u32])
+    requires { ⌜ StateFacts (now state) ⌝ }
+    requires { ⌜ (x < sxIn (now state)) × (y < syIn (now state)) ⌝ }
+    requires { ⌜ idle (stateOf (now state)) x y ≡ true ⌝ }
+    requires { ⌜ registersIn (now state) ≤ length (now next) ⌝ }
+    ensures { λ _. ⌜ now (next .exit) ≡ pushed (now (state .entry)) x y (now (next .entry)) ⌝ }
+{
+    push_east(state, x, y, Register::Empty, next);
+    push_south(state, x, y, Register::Empty, next);
+}
+
+// The router in column x and row y: what it sends goes to its neighbours' next registers, or is delivered after `count` exits.
+fn route(
     state: &[u32],
     x: u32,
     y: u32,
@@ -210,33 +222,6 @@ fn route_packets(
     deliver(exits, south, state[3], delivery, count)
 }
 
-// The router in column x and row y, after `count` exits. An idle one empties its neighbours' next registers.
-fn route(
-    state: &[u32],
-    x: u32,
-    y: u32,
-    entrants: &[u32],
-    next: &mut [u32],
-    delivery: &mut [u32],
-    count: u32,
-) -> u32
-    requires { ⌜ StateFacts (now state) ⌝ }
-    requires { ⌜ (x < sxIn (now state)) × ((y < syIn (now state)) × (clockIn (now state) < 4294967295)) ⌝ }
-    requires { ⌜ Entrants (stateOf (now state)) (countIn (now state)) (now entrants) ⌝ }
-    requires { ⌜ registersIn (now state) ≤ length (now next) ⌝ }
-    requires { ⌜ (count < 256) × (5 * count + 5 ≤ length (now delivery)) ⌝ }
-    ensures { λ _. ⌜ now (next .exit) ≡ pushed (now (state .entry)) x y (now (next .entry)) ⌝ }
-    ensures { λ r. ⌜ r ≡ count + one (exits (stateOf (now (state .entry))) x y) ⌝ }
-    ensures { λ _. ⌜ now (delivery .exit) ≡ sets (now (delivery .entry)) (5 * count) (delivered (stateOf (now (state .entry))) x y) ⌝ }
-{
-    if is_idle(state, x, y, entrants) {
-        push_east(state, x, y, Register::Empty, next);
-        push_south(state, x, y, Register::Empty, next);
-        return count;
-    }
-    route_packets(state, x, y, entrants, next, delivery, count)
-}
-
 // The routers of row y, after `count` exits.
 fn route_row(
     state: &[u32],
@@ -258,7 +243,11 @@ fn route_row(
     let sx = state[0];
     let mut done = count;
     for x in 0..sx {
-        done = route(state, x, y, entrants, next, delivery, done);
+        if is_idle(state, x, y, entrants) {
+            pass_idle(state, x, y, next);
+        } else {
+            done = route(state, x, y, entrants, next, delivery, done);
+        }
     }
     done
 }

@@ -1,31 +1,54 @@
--- `route`: an idle router empties its neighbours' registers; another one sends its packets.
-use mathlib.Core.Path.{refl, sym, _∙_}
+-- `route`: what the router sends is written to its neighbours, or delivered.
+use mathlib.Core.Path.{_∙_}
 use borrow.Author.Needs.{needs}
 use native.Mathlib.Omega.{arith}
-use native.Mathlib.Nat.{add-zero}
-use Rattle.cycle.specs.Router.{atHome}
-use Rattle.cycle.specs.Step.{delivered}
 use Rattle.routing.specs.Walk.{pushed}
-use Rattle.routing.proofs.Idle.{idle-east, idle-south}
+use Rattle.cycle.specs.Step.{delivered}
+use Rattle.state.specs.Read.{stateOf}
+use Rattle.routing.proofs.Flows.{east-sent, south-sent, south-reaches}
 use Rattle.routing.proofs.route.Statement.{statement}
 use Rattle.routing.proofs.route.Tie as tie
+
+at-home-requires : tie.Need-at-home-requires
+at-home-requires c κs =
+    let p = c .before .before .before .before .before .pre in
+    (p .0, rw (c .sent-at .ensures) (south-sent _ (p .0) _ _ (p .1 .0 .0) (p .1 .0 .1 .0)))
 
 push-east-requires : tie.Need-push-east-requires
 push-east-requires c κs =
     let p = c .before .before .before .before .before .before .before .pre in
-    (p .0, ((p .1 .0 .0, p .1 .0 .1 .0), (p .0 .header .count-least, p .1 .1 .1 .0)))
+    (p .0, ((p .1 .0 .0, p .1 .0 .1 .0), (rw (c .before .before .sent-at .ensures) (east-sent _ (p .0) _ _ (p .1 .0 .0) (p .1 .0 .1 .0)), p .1 .1 .1 .0)))
 
 push-south-requires : tie.Need-push-south-requires
 push-south-requires c κs =
-    let p = c .before .before .before .before .before .before .before .before .before .before .before .pre in
-    (p .0, ((p .1 .0 .0, p .1 .0 .1 .0), (p .0 .header .count-least, omega (arith, p .1 .1 .1 .0, c .before .before .before .push-east .kept .1 .1 .1 .1 .0))))
+    let p = c .before .before .before .before .before .before .before .before .before .before .before .before .pre in (
+      p .0,
+      (
+        (p .1 .0 .0, p .1 .0 .1 .0),
+        (
+          rw (c .before .unless-exits .ensures, c .before .before .before .before .before .before .before .sent-at .ensures)
+              (south-reaches _ (p .0) _ _ (p .1 .0 .0) (p .1 .0 .1 .0) (c .before .before .before .before .before .before .at-home .result)),
+          omega (arith, c .before .before .before .before .push-east .kept .1 .1 .1 .1 .0),
+        ),
+      ),
+    )
+
+deliver-requires : tie.Need-deliver-requires
+deliver-requires c κs = c .before .before .before .before .before .before .before .before .before .before .before .before .before .before .before .before .before .pre .1 .1 .1 .1
 
 returns : tie.Need-returns
-unfolding pushed delivered atHome
+unfolding pushed delivered stateOf
 returns c =
-    let is = sym (c .before .before .before .before .before .before .before .before .before .is-idle .ensures) ∙ c .before .before .before .before .before .before .before .before .if1 .taken in
-    rw (idle-east _ _ _ is, idle-south _ _ _ is) (c .before .before .push-south .ensures ∙ rw (c .before .before .before .before .before .before .push-east .ensures), (sym (add-zero _), refl))
+    let out = c .before .before .deliver in
+    let south = c .before .before .before .before .before .before .before in
+    let east = south .before .before .before .before .before in
+    let home = east .before .before .at-home .ensures in
+    let sent = east .before .before .before .sent-at .ensures in (
+      south .push-south .ensures ∙ rw (south .before .before .unless-exits .ensures, east .push-east .ensures, home, sent),
+      (out .ensures .0 ∙ rw (home, sent), out .ensures .1 ∙ rw (home, sent)),
+    )
 
 pub route-spec : {M : Type 1} → statement M
 route-spec =
-    tie.close (tie.spec (λ c κs. search needs) push-east-requires push-south-requires (λ c. search needs) returns (λ c κs. search needs) (λ c. search needs) (λ c. search needs) (λ c. c .before .before .before .before .route-packets .ensures))
+    tie.close (tie.spec (λ c κs. search needs) at-home-requires push-east-requires (λ c κs. search needs) push-south-requires (λ c. search needs)
+    deliver-requires (λ c. search needs) (λ c. search needs) returns)
