@@ -22,14 +22,13 @@ use Rattle.state.specs.Forms.{sizeIn, stateNumber}
 use Rattle.state.specs.Outcome.{over}
 use Rattle.state.proofs.Words.{header-stands, length-cell, length-words, words-stand}
 use Rattle.state.proofs.Forms.{StateFacts, state-facts}
-use Rattle.state.proofs.View.{view-count, view-size}
-use Rattle.state.proofs.Again.{state-again}
+use Rattle.state.proofs.View.{view-size}
 use Rattle.state.proofs.Over.{over-is}
 use Rattle.cycle.specs.Step.{eastward, nextTally, nextCell, stepState}
 use Rattle.routing.specs.Walk.{registersIn, reaches, pushEast, pushSouth, pushed, pushedRow, pushedAll}
 use Rattle.entry.specs.Entrants.{tallied}
 use Rattle.engine.specs.Next.{nextWords}
-use Rattle.engine.proofs.Stored.{words-part, numbers-stand, stored-flow, stored-numbers, stored-other}
+use Rattle.engine.proofs.Stored.{counted, words-part, numbers-stand, stored-flow, stored-numbers, stored-other}
 use Rattle.routing.proofs.Push.{pushAll, pushed-cell, length-pushed}
 
 -- a header with the next clock
@@ -62,20 +61,9 @@ module _ (w : List ℕ) (forms : stateNumber w ≡ 0) (l : List ℕ) (room : reg
   facts : StateFacts w
   facts = state-facts w forms
 
-  counted : length (s .plan .flows) ≡ countIn w
-  unfolding stateOf
-  counted = view-count w
-
-  -- what stands in the state's words stands in the memory
-  before : (at : ℕ) (b : List ℕ) → Stands 0 (stateWords s) at b → Stands 0 w at b
-  before at b p = words-part s w (state-again w forms) at b p
-
   -- the plan numbers of every flow
   abbrev Numbers : List ℕ → Type 0
   Numbers m = (f : ℕ) → f < countIn w → Stands 0 m (flowPlace f) (numberWords (flowAt (s .plan) f))
-
-  numbers : Numbers w
-  numbers f h = numbers-stand s w (state-again w forms) f (rw counted h)
 
   -- what every tally that is written leaves: the header, all plan numbers, and what lies past the state
   record Whole (m : List ℕ) : Type 0 where
@@ -115,7 +103,7 @@ module _ (w : List ℕ) (forms : stateNumber w ≡ 0) (l : List ℕ) (room : reg
   clocked = set summed 3 (clockIn w + 1)
 
   unchanged : Whole w
-  unchanged = record { long = refl; header = before 0 (headerWords (s .plan) (s .clock)) (header-stands s); plan-numbers = numbers; rest = refl }
+  unchanged = record { long = refl; header = words-part w forms 0 (headerWords (s .plan) (s .clock)) (header-stands s); plan-numbers = numbers-stand w forms; rest = refl }
 
   all-whole : Whole summed
   all-whole = turns-keep (countIn w) (tallied w) Whole whole (countIn w) w (omega arith) unchanged
@@ -153,7 +141,7 @@ module _ (w : List ℕ) (forms : stateNumber w ≡ 0) (l : List ℕ) (room : reg
   each : (f : ℕ) → f < length ((stepState s) .plan .flows) → Stands 0 filled (flowPlace f) (flowWords (flowAt ((stepState s) .plan) f) (tallyAt (stepState s) f))
   unfolding stepState
   each f h =
-      let k : f < countIn w = rw counted at h in
+      let k : f < countIn w = rw (counted w forms) at h in
       rw (getD-tabulate (length (s .plan .flows)) (nextTally s) f (freshTally 0) h)
       (stands-other 0 clocked (flowPlace f) (flowWords (flowAt (s .plan) f) (nextTally s f)) base registers
       (stands-other 0 summed (flowPlace f) (flowWords (flowAt (s .plan) f) (nextTally s f)) 3 ((clockIn w + 1) ∷ []) (all-summed f k) (inr (omega arith)))
@@ -178,7 +166,7 @@ module _ (w : List ℕ) (forms : stateNumber w ≡ 0) (l : List ℕ) (room : reg
       → Stands 0 filled (routerPlace (length ((stepState s) .plan .flows)) ((stepState s) .plan .sx) x y) (cellWords (cellAt (stepState s) x y))
   unfolding stepState stateOf planIn
   cells x y h k =
-      rw (counted, getD-grid (sxIn w) (syIn w) (nextCell s) emptyCell x y h k) (routers x y h k)
+      rw (counted w forms, getD-grid (sxIn w) (syIn w) (nextCell s) emptyCell x y h k) (routers x y h k)
 
   size : length (stateWords (stepState s)) ≡ sizeIn w
   unfolding stepState stateOf

@@ -22,13 +22,12 @@ use Rattle.book.specs.Calls.{mostWaiting}
 use Rattle.state.specs.Outcome.{Outcome, outcome, refused, unless, over}
 use Rattle.state.proofs.Forms.{StateFacts, state-facts}
 use Rattle.state.proofs.Words.{header-stands, flow-stands, cell-stands, length-words, words-stand}
-use Rattle.state.proofs.View.{view-count, view-size, view-sized}
-use Rattle.state.proofs.Again.{state-again}
+use Rattle.state.proofs.View.{view-size, view-sized}
 use Rattle.state.proofs.Over.{over-is}
 use Rattle.cycle.specs.Offer.{offerState}
 use Rattle.cycle.specs.Calls.{offerOn}
 use Rattle.engine.specs.Next.{offerNumber}
-use Rattle.engine.proofs.Stored.{words-part, numbers-stand, stored, stored-flow, stored-other}
+use Rattle.engine.proofs.Stored.{counted, words-part, numbers-stand, stored, stored-flow, stored-other}
 
 module _ (w : List ℕ) (forms : stateNumber w ≡ 0) (f : ℕ) (below : f < countIn w) where
   abbrev s : State
@@ -43,18 +42,11 @@ module _ (w : List ℕ) (forms : stateNumber w ≡ 0) (f : ℕ) (below : f < cou
   facts : StateFacts w
   facts = state-facts w forms
 
-  counted : length (s .plan .flows) ≡ countIn w
-  unfolding stateOf
-  counted = view-count w
-
-  before : (at : ℕ) (b : List ℕ) → Stands 0 (stateWords s) at b → Stands 0 w at b
-  before at b p = words-part s w (state-again w forms) at b p
-
   first : Stands 0 after 0 (headerWords ((offerState s f) .plan) ((offerState s f) .clock))
   unfolding offerState
   first =
       stands-other 0 w 0 (headerWords (s .plan) (s .clock)) (flowPlace f + numberSize) (tallyWords more)
-      (before 0 (headerWords (s .plan) (s .clock)) (header-stands s)) (inl (omega arith))
+      (words-part w forms 0 (headerWords (s .plan) (s .clock)) (header-stands s)) (inl (omega arith))
 
   each : (g : ℕ) → g < length ((offerState s f) .plan .flows) → Stands 0 after (flowPlace g) (flowWords (flowAt ((offerState s f) .plan) g) (tallyAt (offerState s f) g))
   unfolding offerState
@@ -62,20 +54,20 @@ module _ (w : List ℕ) (forms : stateNumber w ≡ 0) (f : ℕ) (below : f < cou
       elim (ℕ-discrete g f) [
         | yes e ↦
             let long = facts .long in
-            rw (e, getD-set-same (s .tallies) f more (freshTally 0) (omega (arith, view-sized w .tallies-all, counted)))
-            (stored-flow f more w (flowAt (s .plan) f) (omega arith) (numbers-stand s w (state-again w forms) f (rw e at h)))
+            rw (e, getD-set-same (s .tallies) f more (freshTally 0) (omega (arith, view-sized w .tallies-all, counted w forms)))
+            (stored-flow f more w (flowAt (s .plan) f) (omega arith) (numbers-stand w forms f below))
         | no e ↦
             rw (getD-set-other (s .tallies) f g more (freshTally 0) e)
-            (stored-other f more w g (flowAt (s .plan) g) (tallyAt s g) e (before (flowPlace g) (flowWords (flowAt (s .plan) g) (tallyAt s g)) (flow-stands s g h)))
+            (stored-other f more w g (flowAt (s .plan) g) (tallyAt s g) e (words-part w forms (flowPlace g) (flowWords (flowAt (s .plan) g) (tallyAt s g)) (flow-stands s g h)))
       ]
 
   cells : (x y : ℕ) → x < (offerState s f) .plan .sx → y < (offerState s f) .plan .sy
       → Stands 0 after (routerPlace (length ((offerState s f) .plan .flows)) ((offerState s f) .plan .sx) x y) (cellWords (cellAt (offerState s f) x y))
   unfolding offerState
   cells x y h k =
-      let all = counted in
+      let all = counted w forms in
       stands-other 0 w (routerPlace (length (s .plan .flows)) (s .plan .sx) x y) (cellWords (cellAt s x y)) (flowPlace f + numberSize) (tallyWords more)
-      (before (routerPlace (length (s .plan .flows)) (s .plan .sx) x y) (cellWords (cellAt s x y)) (cell-stands s x y h k))
+      (words-part w forms (routerPlace (length (s .plan .flows)) (s .plan .sx) x y) (cellWords (cellAt s x y)) (cell-stands s x y h k))
       (inr (omega arith))
 
   size : length (stateWords (offerState s f)) ≡ sizeIn w

@@ -1,6 +1,7 @@
 -- A tally written over its flow's words, among the words of a state. Rests on the laws of a state's words.
 use mathlib.Core.List.{List}
 use mathlib.Core.Logic.{inl, inr, _≢_}
+use mathlib.Core.Path.{_≡_}
 use Prim.Native.Nat.{ℕ, _+_, _≤_, _<_}
 use native.Mathlib.Decide.{decLt}
 use native.Mathlib.Nat.{add-zero, zero-add}
@@ -12,22 +13,32 @@ use Rattle.flow.specs.declared.Flow.{Flow}
 use Rattle.flow.specs.Plan.{flowAt}
 use Rattle.state.specs.declared.Tally.{Tally}
 use Rattle.state.specs.Layout.{flowSize, numberSize, flowPlace}
-use Rattle.state.specs.State.{State, tallyAt}
+use Rattle.state.specs.State.{tallyAt}
 use Rattle.state.specs.Words.{numberWords, tallyWords, flowWords, stateWords}
+use Rattle.state.specs.Read.{countIn, stateOf}
+use Rattle.state.specs.Forms.{stateNumber}
 use Rattle.state.proofs.Words.{flow-stands}
+use Rattle.state.proofs.View.{view-count}
+use Rattle.state.proofs.Again.{state-again}
 
--- what stands in a state's words stands in the memory
-pub words-part : (s : State) (w : List ℕ) → Stands 0 w 0 (stateWords s) → (at : ℕ) (b : List ℕ) → Stands 0 (stateWords s) at b → Stands 0 w at b
-words-part s w h at b p = rw zero-add at (stands-in 0 w (stateWords s) b 0 at h p)
+module _ (w : List ℕ) (forms : stateNumber w ≡ 0) where
+  pub counted : length ((stateOf w) .plan .flows) ≡ countIn w
+  unfolding stateOf
+  counted = view-count w
 
--- a flow's plan numbers
-pub numbers-stand : (s : State) (w : List ℕ) → Stands 0 w 0 (stateWords s) → (f : ℕ) → f < length (s .plan .flows)
-    → Stands 0 w (flowPlace f) (numberWords (flowAt (s .plan) f))
-numbers-stand s w h f k =
-    rw add-zero
-    at (stands-in 0 w (flowWords (flowAt (s .plan) f) (tallyAt s f)) (numberWords (flowAt (s .plan) f)) (flowPlace f) 0
-    (words-part s w h (flowPlace f) (flowWords (flowAt (s .plan) f) (tallyAt s f)) (flow-stands s f k))
-    (stands-first 0 (numberWords (flowAt (s .plan) f)) (tallyWords (tallyAt s f))))
+  -- what stands in the state's words stands in the memory
+  pub words-part : (at : ℕ) (b : List ℕ) → Stands 0 (stateWords (stateOf w)) at b → Stands 0 w at b
+  words-part at b p = rw zero-add at (stands-in 0 w (stateWords (stateOf w)) b 0 at (state-again w forms) p)
+
+  -- a flow's plan numbers
+  pub numbers-stand : (f : ℕ) → f < countIn w → Stands 0 w (flowPlace f) (numberWords (flowAt ((stateOf w) .plan) f))
+  numbers-stand f k =
+      let φ = flowAt ((stateOf w) .plan) f in
+      let t = tallyAt (stateOf w) f in
+      rw add-zero
+      at (stands-in 0 w (flowWords φ t) (numberWords φ) (flowPlace f) 0
+      (words-part (flowPlace f) (flowWords φ t) (flow-stands (stateOf w) f (rw counted k)))
+      (stands-first 0 (numberWords φ) (tallyWords t)))
 
 -- the memory m, with tally t written over that of flow g
 abbrev pub stored : (g : ℕ) → Tally → List ℕ → List ℕ
