@@ -21,7 +21,7 @@ use Rattle.state.specs.Layout.{registerSize, routerSize, flowPlace}
 use Rattle.state.specs.State.{tallyAt, cellAt}
 use Rattle.state.specs.Words.{flowOf}
 use Rattle.state.specs.Read.{sxIn, syIn, countIn, clockIn, flowIn, registerIn, routerIn, stateOf}
-use Rattle.state.specs.Forms.{registerFits, sizeIn}
+use Rattle.state.specs.Forms.{registerFits}
 use Rattle.state.proofs.Forms.{TallyFacts, StateFacts, packet-facts}
 use Rattle.state.proofs.View.{view-flow, view-tally, view-cell}
 use Rattle.state.proofs.Words.{router-below}
@@ -34,14 +34,9 @@ module _ (w : List ℕ) (s : StateFacts w) where
       let long = s .long in
       omega (arith, router-below (countIn w) (sxIn w) (syIn w) x y h k)
 
-  -- at most 256 routers, and 4,616 words
+  -- at most 256 routers
   pub cells-most : sxIn w * syIn w ≤ 256
   cells-most = mul-le-mul {n₁ = sxIn w} {m₁ = syIn w} {n₂ = 16} {m₂ = 16} (s .header .sx-ok .most) (s .header .sy-ok .most)
-
-  pub size-most : sizeIn w ≤ 4616
-  size-most =
-      let count = s .header .count-most in
-      omega (arith, cells-most)
 
   -- flow f's numbers and tally are in their ranges
   pub flow-ok : (f : ℕ) → f < countIn w → FlowOk (sxIn w) (syIn w) (flowAt ((stateOf w) .plan) f)

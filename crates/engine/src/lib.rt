@@ -110,8 +110,8 @@ fn advance(state: &mut [u32], delivery: &mut [u32]) -> u32
         let mut registers = [0u32; state::ROUTER_SIZE * 64];
         return advance_in(state, &mut entrants, &mut registers, delivery);
     }
-    let mut entrants = [0u32; 256];
-    let mut registers = [0u32; state::ROUTER_SIZE * 256];
+    let mut entrants = [0u32; state::MOST_ROUTERS];
+    let mut registers = [0u32; state::ROUTER_SIZE * state::MOST_ROUTERS];
     advance_in(state, &mut entrants, &mut registers, delivery)
 }
 

@@ -1,9 +1,8 @@
 -- A plan: the torus sizes and the flows, and the ranges in which its numbers lie (01, Torus and plan file).
 use mathlib.Core.Bool.{Bool, _&&_}
 use mathlib.Core.List.{List}
-use mathlib.Core.Path.{_≡_}
 use Prim.Native.Nat.{ℕ, _≤_, _<_}
-use lib.Dec.{ltb, leb}
+use lib.Dec.{ltb}
 use lib.ListN.{length, getD}
 use Rattle.flow.specs.declared.Flow.{Flow}
 

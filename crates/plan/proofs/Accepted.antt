@@ -1,12 +1,12 @@
 -- What an accepted plan file has: its frame, and a plan in 01's ranges. Rests on specs/Refusals and specs/Layout.
-use mathlib.Core.Bool.{true, false, not, _&&_, _||_}
+use mathlib.Core.Bool.{true, not, _&&_, _||_}
 use mathlib.Core.List.{List}
-use mathlib.Core.Path.{_≡_, refl, sym, _∙_}
-use Prim.Native.Nat.{ℕ, zero, suc, _+_, _-_, _*_, _≤_, _<_}
+use mathlib.Core.Path.{_≡_}
+use Prim.Native.Nat.{ℕ, _+_, _-_, _*_, _≤_}
 use native.Mathlib.Omega.{arith}
-use borrow.Author.Tests.{ltb-false, leb-true, eqb-true, eqb-false, ltb-true, not-false}
+use borrow.Author.Tests.{ltb-false, leb-true, eqb-true, eqb-false, not-false}
 use lib.Dec.{ltb, leb, eqb}
-use lib.ListN.{length, getD}
+use lib.ListN.{length}
 use Rattle.laws.proofs.Cases.{and-true, or-false, passed}
 use Rattle.flow.specs.Plan.{mostSize, mostFlows}
 use Rattle.plan.specs.declared.Trailer.{Trailer}

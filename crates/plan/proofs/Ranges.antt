@@ -1,24 +1,23 @@
 -- The plan of an accepted file lies in 01's ranges. Rests on Accepted.
-use mathlib.Core.Bool.{true, not, _&&_, _||_}
+use mathlib.Core.Bool.{not, _||_}
 use mathlib.Core.List.{List}
-use mathlib.Core.Path.{_≡_, sym, _∙_}
-use Prim.Native.Nat.{ℕ, _+_, _*_, _≤_, _<_}
+use mathlib.Core.Path.{_≡_}
+use Prim.Native.Nat.{ℕ, _+_, _≤_, _<_}
 use native.Mathlib.Omega.{arith}
-use borrow.Author.Tests.{ltb-true, eqb-true, eqb-false, not-false}
-use lib.Dec.{ltb, eqb}
+use borrow.Author.Tests.{eqb-true, eqb-false, not-false}
+use lib.Dec.{eqb}
 use lib.ListN.{length, getD}
 use Rattle.laws.proofs.Bounded.{length-tabulate, getD-tabulate}
-use Rattle.laws.proofs.Cases.{and-true, or-false, passed}
+use Rattle.laws.proofs.Cases.{or-false, passed}
 use Rattle.flow.specs.declared.Flow.{Flow}
 use Rattle.flow.proofs.Plan.{on-torus-facts}
 use Rattle.flow.specs.Plan.{FlowOk, PlanOk, flowAt, noFlow, onTorus}
-use Rattle.plan.specs.declared.Trailer.{Trailer}
 use Rattle.plan.specs.declared.Answer.the-variants.{Done}
 use Rattle.plan.specs.Bytes.{littleEndian2}
 use Rattle.plan.specs.Layout.{trailerOf, flowFrom, lastAt, recordAt, planOf}
 use Rattle.plan.specs.Refusals.{recordNumber, flowNumber, trailerNumber, answerOf, recordsAnswer, planAnswer}
 use Rattle.plan.proofs.Refusals.{or-else-done, first-done}
-use Rattle.plan.proofs.Accepted.{Trailed, done-trailed}
+use Rattle.plan.proofs.Accepted.{done-trailed}
 
 -- a file's entries are bytes
 abbrev pub Bytes : List ℕ → Type 0

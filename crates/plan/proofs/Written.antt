@@ -1,28 +1,27 @@
 -- Writing gives the bytes back: the bytes of an accepted file's plan with its notes are the file. Rests on Ranges.
 use mathlib.Core.Bool.{true}
 use mathlib.Core.List.{List, [], _∷_, _++_, append-assoc, append-nil}
-use mathlib.Core.Path.{_≡_, refl, sym, ap, ap₂, _∙_}
+use mathlib.Core.Path.{_≡_, refl, sym, _∙_}
 use Prim.Native.Nat.{ℕ, zero, suc, _+_, _-_, _*_, _/_, _%_, _≤_, _<_}
-use native.Mathlib.Nat.{mul-zero, add-zero, mul-suc}
+use native.Mathlib.Nat.{mul-zero, add-zero}
 use native.Mathlib.Omega.{arith}
 use borrow.Author.Tests.{eqb-true}
 use lib.Dec.{eqb}
 use lib.ListN.{length, getD, drop, take, take-append-drop}
 use lib.Seq.{drop-length, length-take-le}
 use Rattle.laws.specs.Bounded.{tabulate}
-use Rattle.laws.proofs.Bounded.{all-at, length-tabulate}
+use Rattle.laws.proofs.Bounded.{all-at}
 use Rattle.laws.proofs.Parts.{drop-entries}
 use Rattle.flow.specs.declared.Flow.{Flow}
 use Rattle.flow.specs.Plan.{Plan}
 use Rattle.plan.specs.declared.Answer.the-variants.{Done}
-use Rattle.plan.specs.declared.Trailer.{Trailer}
 use Rattle.plan.specs.Bytes.{littleEndian2, littleEndian4, twoBytes, fourBytes}
-use Rattle.plan.specs.Layout.{tag, tagged, trailerOf, flowFrom, lastAt, recordAt, planOf}
+use Rattle.plan.specs.Layout.{tag, tagged, trailerOf, flowFrom, lastAt, planOf}
 use Rattle.plan.specs.Refusals.{planAnswer}
 use Rattle.plan.specs.Notes.{notesOf}
 use Rattle.plan.specs.Written.{recordBytes, recordsBytes, trailerBytes, planBytes}
-use Rattle.plan.proofs.Accepted.{Trailed, done-trailed}
-use Rattle.plan.proofs.Ranges.{Bytes, RecordOk, done-records, plan-count}
+use Rattle.plan.proofs.Accepted.{done-trailed}
+use Rattle.plan.proofs.Ranges.{Bytes, done-records, plan-count}
 
 two-back : (a b : ℕ) → a < 256 → b < 256 → twoBytes (a + 256 * b) ≡ a ∷ b ∷ []
 unfolding twoBytes

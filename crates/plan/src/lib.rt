@@ -1,7 +1,6 @@
 // Plan files: the reader, its refusals 1 to 7, and the notes. Rests on laws and flow.
 use flow::Flow;
 ghost use mathlib.Core.Path.{_≡_};
-ghost use mathlib.Core.Bool.{Bool};
 ghost use Prim.Native.Nat.{_+_, _*_, _<_, _≤_};
 ghost use lib.ListN.{length};
 ghost use Rattle.flow.specs.Plan.{mostFlows};

@@ -18,7 +18,7 @@ use Rattle.state.specs.declared.Register.{Register}
 use Rattle.state.specs.Layout.{registerSize, routerSize}
 use Rattle.state.specs.Words.{registerWords}
 use Rattle.state.proofs.Words.{length-register}
-use Rattle.routing.specs.Walk.{cellPlace, push}
+use Rattle.routing.specs.Walk.{push}
 
 -- two registers that don't meet
 abbrev Apart : (at i : ℕ) → Type 0

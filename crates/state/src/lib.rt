@@ -18,8 +18,8 @@ pub const FLOW_SIZE: usize = 10;
 pub const REGISTER_SIZE: usize = 4;
 // The words of a router: W before N.
 pub const ROUTER_SIZE: usize = 8;
-// The words of the largest state: 256 flows on 16 by 16.
-pub const MOST_STATE: usize = 4616;
+// The routers of the largest torus: 16 by 16.
+pub const MOST_ROUTERS: usize = 256;
 // A flow's most waiting packets.
 pub const MOST_WAITING: u32 = 65535;
 // The clock of the last state.

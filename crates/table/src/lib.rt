@@ -15,7 +15,7 @@ ghost use Rattle.window.specs.declared.Found.the-variants.{At};
 ghost use Rattle.window.specs.Window.{mostWindow};
 ghost use Rattle.bounds.specs.Calls.{Opened};
 ghost use Rattle.table.specs.Decimal.{decimal, mostDigits};
-ghost use Rattle.table.specs.Table.{field, portField, foundField, waitOf, row, line, lines, header, refusedLine, tableOf, mostField, mostLine, mostTable};
+ghost use Rattle.table.specs.Table.{field, portField, foundField, waitOf, row, line, lines, refusedLine, tableOf, mostField, mostLine, mostTable};
 
 fn put_byte(out: &mut [u8], at: usize, b: u8) -> usize
     requires { ⌜ at < length (now out) ⌝ }

@@ -1,6 +1,6 @@
 // The torus: offsets and neighbours along one row or column. Rests on laws.
 ghost use mathlib.Core.Path.{_≡_};
-ghost use Prim.Native.Nat.{_<_, _≤_};
+ghost use Prim.Native.Nat.{_<_};
 ghost use Rattle.torus.specs.Ring.{offset, next, lap};
 
 // How far `to` lies after `from`, going round: 01's (to − from) mod size.

@@ -4,7 +4,6 @@ use Prim.Native.Nat.{ℕ, _*_, _≤_}
 use borrow.Author.Needs.{needs}
 use native.Mathlib.Omega.{arith}
 use lib.ListN.{replicate, getD-replicate, length-replicate}
-use Rattle.state.specs.Forms.{stateNumber}
 use Rattle.state.specs.Read.{sxIn, syIn, planIn, stateOf}
 use Rattle.state.proofs.Forms.{state-facts}
 use Rattle.entry.specs.Entrants.{Entrants}

@@ -4,7 +4,7 @@ use native.Mathlib.Omega.{arith}
 use borrow.Author.Needs.{needs}
 use Rattle.plan.specs.Refusals.{trailerNumber, planAnswer}
 use Rattle.plan.proofs.Refusals.{answer-refused}
-use Rattle.plan.proofs.Accepted.{Trailed, trailed}
+use Rattle.plan.proofs.Accepted.{trailed}
 use Rattle.plan.proofs.answer_of.Statement.{statement}
 use Rattle.plan.proofs.answer_of.Tie as tie
 

@@ -1,9 +1,9 @@
 -- `header_number`: the definition's own tests, in its order.
-use mathlib.Core.Bool.{Bool, true, false, _&&_}
-use mathlib.Core.Path.{_≡_, refl, sym, _∙_}
+use mathlib.Core.Bool.{true, _&&_}
+use mathlib.Core.Path.{_≡_}
 use borrow.Author.Needs.{needs}
 use borrow.Author.Tests.{ne-eqb, eq-eqb, lt-ltb, le-ltb}
-use Rattle.laws.proofs.Cases.{cases, told-not, told-not′}
+use Rattle.laws.proofs.Cases.{told-not, told-not′}
 use Rattle.plan.specs.Refusals.{headerNumber, sizeOk}
 use Rattle.plan.proofs.header_number.Statement.{statement}
 use Rattle.plan.proofs.header_number.Tie as tie

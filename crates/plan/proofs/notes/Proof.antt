@@ -1,11 +1,8 @@
 -- `notes`: an accepted file starts its records within the file.
-use mathlib.Core.Path.{_≡_, sym, ap, _∙_}
+use mathlib.Core.Path.{sym, _∙_}
 use native.Mathlib.Omega.{arith}
 use borrow.Author.Needs.{needs}
-use lib.ListN.{length}
 use lib.Seq.{length-take-le}
-use Prim.Native.Nat.{_≤_}
-use Rattle.plan.specs.Layout.{trailerOf}
 use Rattle.plan.specs.Notes.{notesOf}
 use Rattle.plan.proofs.Accepted.{Trailed, done-trailed}
 use Rattle.plan.proofs.notes.Statement.{statement}

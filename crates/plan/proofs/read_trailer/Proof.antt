@@ -1,7 +1,6 @@
 -- `read_trailer`: field by field, what the bytes' readers ensure.
 use borrow.Author.Needs.{needs}
-use mathlib.Core.Path.{ap₂}
-use Prim.Native.Nat.{ℕ, _+_, _*_}
+use Prim.Native.Nat.{_+_, _*_}
 use Rattle.plan.specs.Bytes.{littleEndian4}
 use Rattle.plan.specs.Layout.{trailerOf}
 use Rattle.plan.proofs.read_trailer.Statement.{statement}

@@ -1,5 +1,4 @@
 -- `same_client`: the definition's own tests.
-use Rattle.laws.proofs.Cases.{cases}
 use borrow.Author.Tests.{eq-eqb, ne-eqb}
 use Rattle.flow.proofs.Flow.same_client.Statement.{statement}
 use Rattle.flow.proofs.Flow.same_client.Tie as tie
