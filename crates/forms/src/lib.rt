@@ -15,17 +15,12 @@ ghost use Rattle.state.specs.Layout.{headerSize, flowSize, registerSize, flowPl
 ghost use Rattle.state.specs.Read.{sxIn, syIn, routerIn};
 ghost use Rattle.state.specs.Forms.{headerFits, numbersFit, tallyFits, flowFits, FlowsFit, contentsFit, registerFits, cellFits, sizeIn, stateNumber};
 
-// Some words from a place on are 0.
-fn are_zero(w: &[u32], at: usize, count: usize) -> bool
-    requires { ⌜ at + count ≤ length (now w) ⌝ }
-    ensures { λ r. ⌜ r ≡ allBelow count (λ k. eqb (getD (now (w .entry)) (at + k) 0) 0) ⌝ }
+// The four words from a place on are 0.
+fn four_zero(w: &[u32], at: usize) -> bool
+    requires { ⌜ at + 4 ≤ length (now w) ⌝ }
+    ensures { λ r. ⌜ r ≡ allBelow 4 (λ k. eqb (getD (now (w .entry)) (at + k) 0) 0) ⌝ }
 {
-    for k in 0..count {
-        if w[at + k] != 0 {
-            return false;
-        }
-    }
-    true
+    w[at] | w[at + 1] | w[at + 2] | w[at + 3] == 0
 }
 
 // The first eight words are those of a state.
@@ -45,7 +40,7 @@ fn header_fits(w: &[u32]) -> bool
     if 256 < w[2] {
         return false;
     }
-    are_zero(w, 4, 4)
+    four_zero(w, 4)
 }
 
 // A flow's plan numbers lie in their ranges.
@@ -155,7 +150,7 @@ fn register_fits(w: &[u32], input: Input, x: u32, y: u32, at: usize) -> bool
     ensures { λ r. ⌜ r ≡ registerFits (now (w .entry)) (placeOf input x y) at ⌝ }
 {
     match state::register_at(w, at) {
-        Register::Empty => are_zero(w, at, 4),
+        Register::Empty => four_zero(w, at),
         Register::Packet {
             flow,
             serial,
@@ -166,7 +161,7 @@ fn register_fits(w: &[u32], input: Input, x: u32, y: u32, at: usize) -> bool
 }
 
 // Where the registers of the router in column x and row y stand.
-pub fn router_at(w: &[u32], x: u32, y: u32) -> usize
+fn router_at(w: &[u32], x: u32, y: u32) -> usize
     requires { ⌜ (headerSize ≤ length (now w)) × (headerFits (now w) ≡ true) ⌝ }
     requires { ⌜ (x < sxIn (now w)) × (y < syIn (now w)) ⌝ }
     ensures { λ r. ⌜ r ≡ routerIn (now (w .entry)) x y ⌝ }
@@ -218,7 +213,7 @@ fn rows_fit(w: &[u32]) -> bool
 }
 
 // The size that the header asks for.
-pub fn size_in(w: &[u32]) -> usize
+fn size_in(w: &[u32]) -> usize
     requires { ⌜ (headerSize ≤ length (now w)) × (headerFits (now w) ≡ true) ⌝ }
     ensures { λ r. ⌜ r ≡ sizeIn (now (w .entry)) ⌝ }
 {

@@ -24,7 +24,7 @@ returns-4 c = rw (told-not′ (c .before .before .before .before .before .before
 
 returns-5 : tie.Need-returns-5
 unfolding headerFits
-returns-5 c = rw (told-not′ (c .before .before .before .before .before .before .before .before .before .size-ok .ensures) (c .before .before .before .before .before .before .before .before .if1 .left), told-not′ (c .before .before .before .before .before .before .size-ok2 .ensures) (c .before .before .before .before .before .if2 .left), le-leb _ _ (c .before .before .before .if3 .left), le-leb _ _ (c .before .if4 .left)) (c .are-zero .ensures)
+returns-5 c = rw (told-not′ (c .before .before .before .before .before .before .before .before .before .size-ok .ensures) (c .before .before .before .before .before .before .before .before .if1 .left), told-not′ (c .before .before .before .before .before .before .size-ok2 .ensures) (c .before .before .before .before .before .if2 .left), le-leb _ _ (c .before .before .before .if3 .left), le-leb _ _ (c .before .if4 .left)) (c .four-zero .ensures)
 
 pub header-fits-spec : {M : Type 1} → statement M
 header-fits-spec =

@@ -6,7 +6,7 @@ use Rattle.forms.proofs.register_fits.Tie as tie
 
 returns : tie.Need-returns
 unfolding registerFits
-returns c = rw (← (c .before .before .before .register-at .ensures), c .before .enum-told .given .1) (c .are-zero .ensures)
+returns c = rw (← (c .before .before .before .register-at .ensures), c .before .enum-told .given .1) (c .four-zero .ensures)
 
 returns-2 : tie.Need-returns-2
 unfolding registerFits
