@@ -57,20 +57,16 @@ fn route(cycle: &Cycle, registers: &mut [Register], delivery: &mut [[u32; 5]]) -
         let (this, below) = (row * sx, next(row, sy) * sx);
         let mut w = registers[2 * this];
         for (column, n) in north[..sx].iter_mut().enumerate() {
-            let mut east = EMPTY;
-            let mut south = EMPTY;
-            if w[0] != 0 {
-                let turns = flows[w[0] as usize - 1][2] == column as u32;
-                *(if turns { &mut south } else { &mut east }) = w;
-            }
-            if n[0] != 0 {
-                if south[0] != 0 {
-                    east = [n[0], n[1], n[2], n[3] + 1];
-                } else {
-                    south = *n;
-                }
-            }
             let number = entering[this + column];
+            let (to_east, to_south) = (2 * (this + next(column, sx)), 2 * (below + column) + 1);
+            if w[0] | n[0] | number as u32 == 0 {
+                w = replace(&mut registers[to_east], EMPTY);
+                *n = replace(&mut registers[to_south], EMPTY);
+                continue;
+            }
+            let turns = w[0] != 0 && flows[w[0] as usize - 1][2] == column as u32;
+            let deflected = [n[0], n[1], n[2], n[3] + (n[0] != 0) as u32];
+            let (mut east, mut south) = if turns { (deflected, w) } else { (w, *n) };
             if number != 0 {
                 let flow = &flows[number as usize - 1];
                 let packet = [number as u32, flow[8], clock, 0];
@@ -81,8 +77,8 @@ fn route(cycle: &Cycle, registers: &mut [Register], delivery: &mut [[u32; 5]]) -
                 exits += 1;
                 south = EMPTY;
             }
-            w = replace(&mut registers[2 * (this + next(column, sx))], east);
-            *n = replace(&mut registers[2 * (below + column) + 1], south);
+            w = replace(&mut registers[to_east], east);
+            *n = replace(&mut registers[to_south], south);
         }
     }
     exits
