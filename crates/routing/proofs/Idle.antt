@@ -1,6 +1,6 @@
 -- A router with no packet sends none and delivers none. Rests on the laws of entry.
 use mathlib.Core.Bool.{true, _&&_, false≢true}
-use mathlib.Core.List.{[]}
+use mathlib.Core.List.{List, []}
 use mathlib.Core.Path.{_≡_, refl}
 use Prim.Native.Nat.{ℕ}
 use borrow.Author.Tests.{eqb-true}
@@ -13,11 +13,14 @@ use Rattle.flow.specs.declared.Port.the-variants.{East, South}
 use Rattle.state.specs.declared.Register.{Register}
 use Rattle.state.specs.declared.Register.the-variants.{Empty, Packet}
 use Rattle.state.specs.State.{State, cellAt}
+use Rattle.state.specs.Read.{stateOf}
 use Rattle.cycle.specs.Router.{isEmpty, turnsSouth, atHome, sentEast, sentSouth}
 use Rattle.cycle.specs.Entry.{clientSends}
 use Rattle.cycle.specs.Step.{eastward, southward, exits, delivered}
 use Rattle.entry.specs.Entrants.{entrant, sendsBy}
 use Rattle.entry.proofs.Entrant.{client-walk}
+use Rattle.routing.specs.declared.Grid.{Grid}
+use Rattle.routing.specs.Walk.{gridIn, pushEast, pushSouth, pushed}
 use Rattle.routing.specs.Sent.{idle}
 
 module _ (s : State) (x y : ℕ) (h : idle s x y ≡ true) where
@@ -57,3 +60,9 @@ module _ (s : State) (x y : ℕ) (h : idle s x y ≡ true) where
   pub idle-delivers : delivered s x y ≡ []
   unfolding delivered atHome
   idle-delivers = rw idle-south
+
+-- and empties its neighbours' next registers
+pub idle-pushed : (w : List ℕ) (g : Grid) → g ≡ gridIn w → (x y : ℕ) → idle (stateOf w) x y ≡ true → (l : List ℕ)
+    → pushSouth g x y Empty (pushEast g x y Empty l) ≡ pushed w x y l
+unfolding pushed atHome
+idle-pushed w g e x y none l = rw (e, idle-east (stateOf w) x y none, idle-south (stateOf w) x y none)

@@ -3,3 +3,4 @@ pub mod Flows
 pub mod Push
 pub mod Exits
 pub mod Idle
+pub mod OnGrid

@@ -1,28 +1,44 @@
 -- What the walk over the routers leaves. Only promises of inner functions name these; proofs/ ties them to the definitions of Step.
 use mathlib.Core.Bool.{cond}
 use mathlib.Core.List.{List}
-use Prim.Native.Nat.{ℕ, _+_, _*_}
+use Prim.Native.Nat.{ℕ, _+_, _*_, _≤_, _<_}
 use lib.Seq.{sets}
 use Rattle.laws.specs.Bounded.{sumBelow}
 use Rattle.laws.specs.Count.{one, joinBelow}
 use Rattle.laws.specs.Grid.{cellIndex}
 use Rattle.laws.specs.Turns.{turns}
 use Rattle.torus.specs.Ring.{next}
+use Rattle.flow.specs.Plan.{mostSize}
 use Rattle.state.specs.declared.Register.{Register}
 use Rattle.state.specs.declared.Register.the-variants.{Empty}
-use Rattle.state.specs.Layout.{registerSize, routerSize}
+use Rattle.state.specs.Layout.{registerSize, routerSize, flowPlace}
 use Rattle.state.specs.State.{State}
 use Rattle.state.specs.Words.{registerWords}
-use Rattle.state.specs.Read.{sxIn, syIn, stateOf}
+use Rattle.state.specs.Read.{sxIn, syIn, countIn, stateOf}
 use Rattle.cycle.specs.Step.{eastward, southward, exits, delivered}
+use Rattle.routing.specs.declared.Grid.{Grid}
 
 -- where the registers of the router in column x and row y stand among those of all routers
 abbrev pub cellPlace : (sx x y : ℕ) → ℕ
 cellPlace sx x y = routerSize * cellIndex sx x y
 
+-- the grid of a state's routers
+abbrev pub gridIn : (w : List ℕ) → Grid
+gridIn w = record { sx = sxIn w; sy = syIn w; registers = flowPlace (countIn w) }
+
+-- column x and row y are on it
+pub record OnGrid (g : Grid) (x y : ℕ) : Type 0 where
+  pub sx-most : g .sx ≤ mostSize
+  pub sy-most : g .sy ≤ mostSize
+  pub column : x < g .sx
+  pub row : y < g .sy
+
 -- how many words the registers of all routers are
+abbrev pub registersOf : Grid → ℕ
+registersOf g = routerSize * (g .sx * g .sy)
+
 abbrev pub registersIn : (w : List ℕ) → ℕ
-registersIn w = routerSize * (sxIn w * syIn w)
+registersIn w = registersOf (gridIn w)
 
 -- the registers l, after the router in column x and row y has sent these E and S
 abbrev pub push : (sx sy : ℕ) → (east south : Register) → (x y : ℕ) → List ℕ → List ℕ
@@ -33,18 +49,18 @@ push sx sy east south x y l =
 abbrev pub reaches : State → (x y : ℕ) → Register
 reaches s x y = cond (exits s x y) Empty (southward s x y)
 
--- the registers l, after the router in column x and row y of the state with words w has sent this E, or S
-unfoldable pub pushEast : (w : List ℕ) → (x y : ℕ) → Register → List ℕ → List ℕ
-pushEast w x y east l = sets l (cellPlace (sxIn w) (next (sxIn w) x) y) (registerWords east)
+-- the registers l, after the router in column x and row y has sent this E, or S
+unfoldable pub pushEast : Grid → (x y : ℕ) → Register → List ℕ → List ℕ
+pushEast g x y east l = sets l (cellPlace (g .sx) (next (g .sx) x) y) (registerWords east)
 
-unfoldable pub pushSouth : (w : List ℕ) → (x y : ℕ) → Register → List ℕ → List ℕ
-pushSouth w x y south l = sets l (cellPlace (sxIn w) x (next (syIn w) y) + registerSize) (registerWords south)
+unfoldable pub pushSouth : Grid → (x y : ℕ) → Register → List ℕ → List ℕ
+pushSouth g x y south l = sets l (cellPlace (g .sx) x (next (g .sy) y) + registerSize) (registerWords south)
 
--- after all that this router sends
+-- after all that this router of the state with words w sends
 unfoldable pub pushed : (w : List ℕ) → (x y : ℕ) → List ℕ → List ℕ
 pushed w x y l =
     let s = stateOf w in
-    pushSouth w x y (reaches s x y) (pushEast w x y (eastward s x y) l)
+    pushSouth (gridIn w) x y (reaches s x y) (pushEast (gridIn w) x y (eastward s x y) l)
 
 -- after a row's routers, and after all
 unfoldable pub pushedRow : (w : List ℕ) → (y : ℕ) → List ℕ → List ℕ

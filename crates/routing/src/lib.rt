@@ -2,7 +2,7 @@
 use flow::Port;
 use state::Register;
 ghost use mathlib.Core.Path.{_≡_};
-ghost use mathlib.Core.Bool.{true, cond};
+ghost use mathlib.Core.Bool.{cond};
 ghost use mathlib.Core.List.{[]};
 ghost use Prim.Native.Nat.{_+_, _*_, _<_, _≤_};
 ghost use lib.ListN.{length};
@@ -14,10 +14,17 @@ ghost use Rattle.state.specs.Words.{flowOf};
 ghost use Rattle.state.specs.Read.{sxIn, syIn, countIn, clockIn, stateOf};
 ghost use Rattle.state.proofs.Forms.{StateFacts};
 ghost use Rattle.entry.specs.Entrants.{entrant, Entrants};
-ghost use Rattle.routing.specs.Walk.{registersIn, pushEast, pushSouth, pushed, pushedRow, pushedAll, rowExits, rowDelivers};
+ghost use Rattle.routing.specs.Walk.{gridIn, OnGrid, registersOf, registersIn, pushEast, pushSouth, pushed, pushedRow, pushedAll, rowExits, rowDelivers};
 ghost use Rattle.routing.specs.Sent.{sentBy, sentAt, idle};
 ghost use Rattle.cycle.specs.Step.{exits, exitWords, delivered, stepDelivers};
 ghost use Rattle.cycle.specs.Calls.{exitCount};
+
+// The grid of a state's routers: columns, rows, and where the registers begin in the state's words.
+struct Grid {
+    sx: u32,
+    sy: u32,
+    registers: usize,
+}
 
 // What is sent by the two outputs of a router.
 struct Sent {
@@ -91,25 +98,20 @@ fn sent_at(state: &[u32], x: u32, y: u32, entrants: &[u32]) -> Sent
 }
 
 // Writes what goes E to the W register to the east.
-fn push_east(state: &[u32], x: u32, y: u32, east: Register, next: &mut [u32])
-    requires { ⌜ StateFacts (now state) ⌝ }
-    requires { ⌜ (x < sxIn (now state)) × (y < syIn (now state)) ⌝ }
-    requires { ⌜ (flowOf east < countIn (now state)) × (registersIn (now state) ≤ length (now next)) ⌝ }
-    ensures { λ _. ⌜ now (next .exit) ≡ pushEast (now (state .entry)) x y east (now (next .entry)) ⌝ }
+fn push_east(grid: Grid, x: u32, y: u32, east: Register, next: &mut [u32])
+    requires { ⌜ (OnGrid grid x y) × ((flowOf east < 256) × (registersOf grid ≤ length (now next))) ⌝ }
+    ensures { λ _. ⌜ now (next .exit) ≡ pushEast grid x y east (now (next .entry)) ⌝ }
 {
-    let sx = state[0];
-    let router = cycle::router_index(sx, torus::next(sx, x), y);
+    let router = cycle::router_index(grid.sx, torus::next(grid.sx, x), y);
     state::put_register(next, state::ROUTER_SIZE * router, east);
 }
 
 // Writes what goes S, and doesn't exit, to the N register to the south.
-fn push_south(state: &[u32], x: u32, y: u32, south: Register, next: &mut [u32])
-    requires { ⌜ StateFacts (now state) ⌝ }
-    requires { ⌜ (x < sxIn (now state)) × (y < syIn (now state)) ⌝ }
-    requires { ⌜ (flowOf south < countIn (now state)) × (registersIn (now state) ≤ length (now next)) ⌝ }
-    ensures { λ _. ⌜ now (next .exit) ≡ pushSouth (now (state .entry)) x y south (now (next .entry)) ⌝ }
+fn push_south(grid: Grid, x: u32, y: u32, south: Register, next: &mut [u32])
+    requires { ⌜ (OnGrid grid x y) × ((flowOf south < 256) × (registersOf grid ≤ length (now next))) ⌝ }
+    ensures { λ _. ⌜ now (next .exit) ≡ pushSouth grid x y south (now (next .entry)) ⌝ }
 {
-    let router = cycle::router_index(state[0], x, torus::next(state[1], y));
+    let router = cycle::router_index(grid.sx, x, torus::next(grid.sy, y));
     state::put_register(
         next,
         state::ROUTER_SIZE * router + state::REGISTER_SIZE,
@@ -163,17 +165,17 @@ fn deliver(exits: bool, south: Register, clock: u32, delivery: &mut [u32], count
 }
 
 // No packet stands at the router in column x and row y, nor enters there.
-fn is_idle(state: &[u32], x: u32, y: u32, entrants: &[u32]) -> bool
-    requires { ⌜ StateFacts (now state) ⌝ }
+fn is_idle(state: &[u32], grid: Grid, x: u32, y: u32, entrants: &[u32]) -> bool
+    requires { ⌜ (StateFacts (now state)) × (grid ≡ gridIn (now state)) ⌝ }
     requires { ⌜ (x < sxIn (now state)) × (y < syIn (now state)) ⌝ }
     requires { ⌜ Entrants (stateOf (now state)) (countIn (now state)) (now entrants) ⌝ }
     ensures { λ r. ⌜ r ≡ idle (stateOf (now (state .entry))) x y ⌝ }
 {
-    let client = cycle::router_index(state[0], x, y);
-    if entrants[client] != 0 {
+    let router = cycle::router_index(grid.sx, x, y);
+    if entrants[router] != 0 {
         return false;
     }
-    let cell = cycle::cell_at(state, x, y);
+    let cell = state::cell_in(state, grid.registers + state::ROUTER_SIZE * router);
     let west = cell.west;
     if !cycle::is_empty(west) {
         return false;
@@ -183,20 +185,18 @@ fn is_idle(state: &[u32], x: u32, y: u32, entrants: &[u32]) -> bool
 }
 
 // An idle router empties its neighbours' next registers.
-fn pass_idle(state: &[u32], x: u32, y: u32, next: &mut [u32])
-    requires { ⌜ StateFacts (now state) ⌝ }
-    requires { ⌜ (x < sxIn (now state)) × (y < syIn (now state)) ⌝ }
-    requires { ⌜ idle (stateOf (now state)) x y ≡ true ⌝ }
-    requires { ⌜ registersIn (now state) ≤ length (now next) ⌝ }
-    ensures { λ _. ⌜ now (next .exit) ≡ pushed (now (state .entry)) x y (now (next .entry)) ⌝ }
+fn pass_idle(grid: Grid, x: u32, y: u32, next: &mut [u32])
+    requires { ⌜ (OnGrid grid x y) × (registersOf grid ≤ length (now next)) ⌝ }
+    ensures { λ _. ⌜ now (next .exit) ≡ pushSouth grid x y Empty (pushEast grid x y Empty (now (next .entry))) ⌝ }
 {
-    push_east(state, x, y, Register::Empty, next);
-    push_south(state, x, y, Register::Empty, next);
+    push_east(grid, x, y, Register::Empty, next);
+    push_south(grid, x, y, Register::Empty, next);
 }
 
 // The router in column x and row y: what it sends goes to its neighbours' next registers, or is delivered after `count` exits.
 fn route(
     state: &[u32],
+    grid: Grid,
     x: u32,
     y: u32,
     entrants: &[u32],
@@ -204,7 +204,7 @@ fn route(
     delivery: &mut [u32],
     count: u32,
 ) -> u32
-    requires { ⌜ StateFacts (now state) ⌝ }
+    requires { ⌜ (StateFacts (now state)) × (grid ≡ gridIn (now state)) ⌝ }
     requires { ⌜ (x < sxIn (now state)) × ((y < syIn (now state)) × (clockIn (now state) < 4294967295)) ⌝ }
     requires { ⌜ Entrants (stateOf (now state)) (countIn (now state)) (now entrants) ⌝ }
     requires { ⌜ registersIn (now state) ≤ length (now next) ⌝ }
@@ -217,21 +217,22 @@ fn route(
     let east = sent.east;
     let south = sent.south;
     let exits = cycle::at_home(state, x, y, south);
-    push_east(state, x, y, east, next);
-    push_south(state, x, y, unless_exits(exits, south), next);
+    push_east(grid, x, y, east, next);
+    push_south(grid, x, y, unless_exits(exits, south), next);
     deliver(exits, south, state[3], delivery, count)
 }
 
 // The routers of row y, after `count` exits.
 fn route_row(
     state: &[u32],
+    grid: Grid,
     y: u32,
     entrants: &[u32],
     next: &mut [u32],
     delivery: &mut [u32],
     count: u32,
 ) -> u32
-    requires { ⌜ StateFacts (now state) ⌝ }
+    requires { ⌜ (StateFacts (now state)) × (grid ≡ gridIn (now state)) ⌝ }
     requires { ⌜ (y < syIn (now state)) × (clockIn (now state) < 4294967295) ⌝ }
     requires { ⌜ Entrants (stateOf (now state)) (countIn (now state)) (now entrants) ⌝ }
     requires { ⌜ registersIn (now state) ≤ length (now next) ⌝ }
@@ -240,13 +241,12 @@ fn route_row(
     ensures { λ r. ⌜ r ≡ count + rowExits (now (state .entry)) y ⌝ }
     ensures { λ _. ⌜ now (delivery .exit) ≡ sets (now (delivery .entry)) (5 * count) (rowDelivers (now (state .entry)) y) ⌝ }
 {
-    let sx = state[0];
     let mut done = count;
-    for x in 0..sx {
-        if is_idle(state, x, y, entrants) {
-            pass_idle(state, x, y, next);
+    for x in 0..grid.sx {
+        if is_idle(state, grid, x, y, entrants) {
+            pass_idle(grid, x, y, next);
         } else {
-            done = route(state, x, y, entrants, next, delivery, done);
+            done = route(state, grid, x, y, entrants, next, delivery, done);
         }
     }
     done
@@ -264,9 +264,15 @@ pub fn route_all(state: &[u32], entrants: &[u32], next: &mut [u32], delivery: &m
     ensures { λ _. ⌜ now (delivery .exit) ≡ sets (now (delivery .entry)) 0 (stepDelivers (stateOf (now (state .entry)))) ⌝ }
 {
     let sy = state[1];
+    let flows = state[2] as usize;
+    let grid = Grid {
+        sx: state[0],
+        sy,
+        registers: state::HEADER_SIZE + state::FLOW_SIZE * flows,
+    };
     let mut done = 0;
     for y in 0..sy {
-        done = route_row(state, y, entrants, next, delivery, done);
+        done = route_row(state, grid, y, entrants, next, delivery, done);
     }
     done
 }

@@ -1,47 +1,85 @@
 -- `is_idle`: the definition's own tests.
-use mathlib.Core.Path.{_≡_}
+use mathlib.Core.Path.{_≡_, sym, ap, _∙_}
+use Prim.Native.Nat.{_+_, _*_, _<_}
 use borrow.Author.Needs.{needs}
 use borrow.Author.Tests.{eq-eqb, ne-eqb}
+use native.Mathlib.Omega.{arith}
 use lib.ListN.{length, getD}
+use Rattle.laws.specs.Grid.{cellIndex}
 use Rattle.laws.proofs.Cases.{told-not, told-not′}
-use Rattle.state.specs.Read.{stateOf}
-use Rattle.state.proofs.View.{view-count}
+use Rattle.state.specs.Layout.{routerSize}
+use Rattle.state.specs.State.{cellAt}
+use Rattle.state.specs.Read.{sxIn, routerIn, stateOf}
+use Rattle.state.proofs.View.{view-count, view-cell}
+use Rattle.cycle.proofs.Facts.{router-fits}
 use Rattle.entry.specs.Entrants.{entrant}
 use Rattle.entry.proofs.Clients.{entrant-fits, entrant-found}
+use Rattle.routing.specs.declared.Grid.{Grid}
 use Rattle.routing.proofs.is_idle.Statement.{statement}
 use Rattle.routing.proofs.is_idle.Tie as tie
 
+router-index-requires : tie.Need-router-index-requires
+router-index-requires c κs =
+    let p = c .before .before .pre in
+    let sizes = p .0 .0 .header in
+    rw (p .0 .1) (omega arith)
+
+-- the router's place among all
+index : (c : tie.After-router-index) → let a = c .before .before .before .args in c .router-index .result ≡ cellIndex (sxIn (a .state .now)) (a .x) (a .y)
+index c = c .router-index .ensures .0 ∙ rw (c .before .before .before .pre .0 .1)
+
 shared-slice-read-if1 : tie.Need-shared-slice-read-if1
 shared-slice-read-if1 c =
-    let p = c .before .before .before .before .before .pre in
-    rw (c .before .router-index .ensures .0) (entrant-fits _ (p .0) _ _ (p .1 .1) _ _ (p .1 .0 .0) (p .1 .0 .1))
+    let p = c .before .before .before .before .pre in
+    rw (index (c .before)) (entrant-fits _ (p .0 .0) _ _ (p .1 .1) _ _ (p .1 .0 .0) (p .1 .0 .1))
 
--- the client's entrant
-found : (c : tie.After-router-index) → let a = c .before .before .before .before .args in
+-- its client's entrant
+found : (c : tie.After-router-index) → let a = c .before .before .before .args in
     entrant (stateOf (a .state .now)) (a .x) (a .y) (length ((stateOf (a .state .now)) .plan .flows)) ≡ getD (a .entrants .now) (c .router-index .result) 0
 unfolding stateOf
 found c =
-    let start = c .before .before .before .before in
+    let start = c .before .before .before in
     let p = start .pre in
-    rw (c .router-index .ensures .0, view-count (start .args .state .now), entrant-found _ (p .0) _ _ (p .1 .1) _ _ (p .1 .0 .0) (p .1 .0 .1))
+    rw (index c, view-count (start .args .state .now), entrant-found _ (p .0 .0) _ _ (p .1 .1) _ _ (p .1 .0 .0) (p .1 .0 .1))
+
+-- where its registers stand
+place : (c : tie.After-router-index) → let a = c .before .before .before .args in a .grid .registers + routerSize * c .router-index .result ≡ routerIn (a .state .now) (a .x) (a .y)
+place c = rw (index c, c .before .before .before .pre .0 .1)
+
+add-cell-in : tie.Need-add-cell-in
+add-cell-in c =
+    let p = c .before .before .before .before .before .before .pre .0 in
+    let count = p .0 .header .count-most in
+    rw (p .1) (omega (arith, c .before .before .before .router-index .ensures .1))
+
+cell-in-requires : tie.Need-cell-in-requires
+cell-in-requires c κs =
+    let p = c .before .before .before .before .before .before .pre in
+    rw (place (c .before .before .before)) (router-fits _ (p .0 .0) _ _ (p .1 .0 .0) (p .1 .0 .1))
+
+cell : (c : tie.After-cell-in) → let a = c .before .before .before .before .before .before .before .args in cellAt (stateOf (a .state .now)) (a .x) (a .y) ≡ c .cell-in .result
+cell c =
+    let start = c .before .before .before .before .before .before .before in
+    let p = start .pre in
+    view-cell _ _ _ (p .1 .0 .0) (p .1 .0 .1) ∙ sym (c .cell-in .ensures ∙ rw (place (c .before .before .before .before)))
 
 returns : tie.Need-returns
 returns c = rw (found (c .before .before), ne-eqb _ _ (c .if1 .taken))
 
 returns-2 : tie.Need-returns-2
 returns-2 c =
-    rw (found (c .before .before .before .before .before), eq-eqb _ _ (c .before .before .before .if1 .left), ← (c .before .before .cell-at .ensures), told-not (c .before .is-empty .ensures) (c .if2 .taken))
+    rw (found (c .before .before .before .before .before .before), eq-eqb _ _ (c .before .before .before .before .if1 .left), cell (c .before .before), told-not (c .before .is-empty .ensures) (c .if2 .taken))
 
 returns-3 : tie.Need-returns-3
 returns-3 c =
     rw (
-      found (c .before .before .before .before .before .before),
-      eq-eqb _ _ (c .before .before .before .before .if1 .left),
-      ← (c .before .before .before .cell-at .ensures),
+      found (c .before .before .before .before .before .before .before),
+      eq-eqb _ _ (c .before .before .before .before .before .if1 .left),
+      cell (c .before .before .before),
       told-not′ (c .before .before .is-empty .ensures) (c .before .if2 .left),
     ) (c .is-empty2 .ensures)
 
 pub is-idle-spec : {M : Type 1} → statement M
 is-idle-spec =
-    tie.close (tie.spec (λ c. search needs) (λ c κs. search needs) (λ c. search needs) shared-slice-read-if1 returns
-    (λ c κs. search needs) (λ c κs. search needs) returns-2 (λ c κs. search needs) returns-3)
+    tie.close (tie.spec router-index-requires (λ c. search needs) shared-slice-read-if1 returns
+    (λ c. search needs) add-cell-in cell-in-requires (λ c κs. search needs) returns-2 (λ c κs. search needs) returns-3)

@@ -8,16 +8,18 @@ use Rattle.routing.specs.Walk.{pushEast}
 use Rattle.routing.proofs.push_east.Statement.{statement}
 use Rattle.routing.proofs.push_east.Tie as tie
 
+next-requires : tie.Need-next-requires
+next-requires c κs = let p = c .before .pre .0 in omega arith
+
 router-index-requires : tie.Need-router-index-requires
 router-index-requires c κs =
-    let p = c .before .before .before .before .pre in
-    let sizes = p .0 .header in
-    (sizes .sx-ok .most, (rw (c .next .ensures) (next-below _ _ (p .1 .0 .0)), omega arith))
+    let p = c .before .before .pre .0 in
+    (p .sx-most, (rw (c .next .ensures) (next-below _ _ (p .column)), omega arith))
 
 put-register-requires : tie.Need-put-register-requires
 put-register-requires c κs =
-    let p = c .before .before .before .before .before .before .pre in
-    let room = cell-below _ _ _ _ (next-below _ _ (p .1 .0 .0)) (p .1 .0 .1) in
+    let p = c .before .before .before .before .pre in
+    let room = cell-below _ _ _ _ (next-below _ _ (p .0 .column)) (p .0 .row) in
     rw (c .before .router-index .ensures .0, c .before .before .next .ensures) (omega arith)
 
 returns : tie.Need-returns
@@ -27,5 +29,4 @@ returns c =
     c .before .before .put-register .ensures ∙ rw (at .router-index .ensures .0, at .before .next .ensures)
 
 pub push-east-spec : {M : Type 1} → statement M
-push-east-spec =
-    tie.close (tie.spec (λ c. search needs) (λ c κs. search needs) router-index-requires (λ c. search needs) put-register-requires (λ c. search needs) returns)
+push-east-spec = tie.close (tie.spec next-requires router-index-requires (λ c. search needs) put-register-requires (λ c. search needs) returns)
