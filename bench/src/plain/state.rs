@@ -58,18 +58,24 @@ fn flow_holds(state: &State, flow: &FlowWords) -> bool {
 }
 
 fn registers_hold(state: &State) -> bool {
-    let mut registers = state.registers.iter();
-    for row in 0..state.sy as u32 {
-        for column in 0..state.sx as u32 {
-            for north in [false, true] {
-                let register = registers.next().unwrap();
-                if *register != EMPTY && !in_place(state, row, column, north, register) {
-                    return false;
-                }
-            }
+    let sx = state.sx as u32;
+    let (mut row, mut column) = (0, 0);
+    for [west, north] in state.registers.as_chunks().0 {
+        if !is_empty(west) && !in_place(state, row, column, false, west)
+            || !is_empty(north) && !in_place(state, row, column, true, north)
+        {
+            return false;
+        }
+        column += 1;
+        if column == sx {
+            (row, column) = (row + 1, 0);
         }
     }
     true
+}
+
+fn is_empty(&[number, serial, entry, d]: &Register) -> bool {
+    number | serial | entry | d == 0
 }
 
 fn in_place(state: &State, row: u32, column: u32, north: bool, register: &Register) -> bool {
