@@ -7,7 +7,6 @@ ghost use mathlib.Core.Path.{_≡_};
 ghost use mathlib.Core.Bool.{cond, true};
 ghost use Prim.Native.Nat.{_+_, _*_, _<_, _≤_};
 ghost use Rattle.laws.specs.Grid.{cellIndex};
-ghost use Rattle.laws.specs.Turns.{turns};
 ghost use Rattle.flow.specs.Plan.{flowAt};
 ghost use Rattle.state.specs.declared.Register.the-variants.{Empty};
 ghost use Rattle.state.specs.State.{tallyAt, cellAt};

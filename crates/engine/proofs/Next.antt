@@ -25,7 +25,7 @@ use Rattle.state.proofs.Forms.{StateFacts, state-facts}
 use Rattle.state.proofs.View.{view-size}
 use Rattle.state.proofs.Over.{over-is}
 use Rattle.cycle.specs.Step.{eastward, nextTally, nextCell, stepState}
-use Rattle.routing.specs.Walk.{registersIn, reaches, pushEast, pushSouth, pushed, pushedRow, pushedAll}
+use Rattle.routing.specs.Walk.{gridIn, registersIn, reaches, pushed, pushedRow, pushedAll}
 use Rattle.entry.specs.Entrants.{tallied}
 use Rattle.engine.specs.Next.{nextWords}
 use Rattle.engine.proofs.Stored.{counted, words-part, numbers-stand, stored-flow, stored-numbers, stored-other}
@@ -113,13 +113,13 @@ module _ (w : List ℕ) (forms : stateNumber w ≡ 0) (l : List ℕ) (room : reg
 
   -- the next registers
   abbrev pushed-registers : List ℕ
-  pushed-registers = pushAll (sxIn w) (syIn w) (eastward s) (reaches s) l
+  pushed-registers = pushAll (gridIn w) (eastward s) (reaches s) l
 
   abbrev registers : List ℕ
   registers = take (registersIn w) pushed-registers
 
   enough : registersIn w ≤ length pushed-registers
-  enough = rw (length-pushed (sxIn w) (syIn w) (eastward s) (reaches s) l) room
+  enough = rw (length-pushed (gridIn w) (eastward s) (reaches s) l) room
 
   taken : length registers ≡ registersIn w
   taken = length-take-le (registersIn w) pushed-registers enough
@@ -129,7 +129,7 @@ module _ (w : List ℕ) (forms : stateNumber w ≡ 0) (l : List ℕ) (room : reg
   filled = sets clocked base registers
 
   is-filled : nextWords w (pushedAll w l) ≡ filled
-  unfolding nextWords pushedAll pushedRow pushed pushEast pushSouth
+  unfolding nextWords pushedAll pushedRow pushed
   is-filled = refl
 
   first : Stands 0 filled 0 (headerWords ((stepState s) .plan) ((stepState s) .clock))
@@ -158,7 +158,7 @@ module _ (w : List ℕ) (forms : stateNumber w ≡ 0) (l : List ℕ) (room : reg
   routers : (x y : ℕ) → x < sxIn w → y < syIn w → Stands 0 filled (routerPlace (countIn w) (sxIn w) x y) (cellWords (nextCell s x y))
   unfolding nextCell stateOf planIn
   routers x y h k =
-      let p = pushed-cell (sxIn w) (syIn w) (eastward s) (reaches s) l room x y h k in
+      let p = pushed-cell (gridIn w) (eastward s) (reaches s) l room x y h k in
       stands-in 0 filled registers (cellWords (nextCell s x y)) base (routerSize * cellIndex (sxIn w) x y) all-registers
       (stands-take 0 pushed-registers (registersIn w) _ _ enough (omega (arith, cell-below (sxIn w) (syIn w) x y h k, length-cell (nextCell s x y))) p)
 

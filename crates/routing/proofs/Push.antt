@@ -18,7 +18,8 @@ use Rattle.state.specs.declared.Register.{Register}
 use Rattle.state.specs.Layout.{registerSize, routerSize}
 use Rattle.state.specs.Words.{registerWords}
 use Rattle.state.proofs.Words.{length-register}
-use Rattle.routing.specs.Walk.{push}
+use Rattle.routing.specs.declared.Grid.{Grid}
+use Rattle.routing.specs.Walk.{registersOf, pushEast, pushSouth}
 
 -- two registers that don't meet
 abbrev Apart : (at i : ℕ) → Type 0
@@ -42,9 +43,15 @@ west-north i k = elim (decLe i k) [ yes h ↦ inl (omega arith) | no h ↦ inr (
 north-west : (i k : ℕ) → Apart (routerSize * i + registerSize) (routerSize * k)
 north-west i k = elim (decLe k i) [ yes h ↦ inr (omega arith) | no h ↦ inl (omega arith) ]
 
-module _ (sx sy : ℕ) (east south : ℕ → ℕ → Register) where
+module _ (g : Grid) (east south : ℕ → ℕ → Register) where
+  abbrev sx : ℕ
+  sx = g .sx
+
+  abbrev sy : ℕ
+  sy = g .sy
+
   abbrev pub pushOne : (x y : ℕ) → List ℕ → List ℕ
-  pushOne x y l = push sx sy (east x y) (south x y) x y l
+  pushOne x y l = pushSouth g x y (south x y) (pushEast g x y (east x y) l)
 
   abbrev pub pushRow : ℕ → List ℕ → List ℕ
   pushRow y l = turns sx (λ x. pushOne x y) l
@@ -54,7 +61,7 @@ module _ (sx sy : ℕ) (east south : ℕ → ℕ → Register) where
 
   -- the registers are all there
   abbrev Room : List ℕ → Type 0
-  Room l = routerSize * (sx * sy) ≤ length l
+  Room l = registersOf g ≤ length l
 
   -- the W register of the cell with index i, and its N register, hold r
   abbrev West : ℕ → Register → List ℕ → Type 0

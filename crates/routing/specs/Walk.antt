@@ -40,20 +40,15 @@ registersOf g = routerSize * (g .sx * g .sy)
 abbrev pub registersIn : (w : List ℕ) → ℕ
 registersIn w = registersOf (gridIn w)
 
--- the registers l, after the router in column x and row y has sent these E and S
-abbrev pub push : (sx sy : ℕ) → (east south : Register) → (x y : ℕ) → List ℕ → List ℕ
-push sx sy east south x y l =
-    sets (sets l (cellPlace sx (next sx x) y) (registerWords east)) (cellPlace sx x (next sy y) + registerSize) (registerWords south)
-
 -- what reaches the N register to the south: nothing if it exits
 abbrev pub reaches : State → (x y : ℕ) → Register
 reaches s x y = cond (exits s x y) Empty (southward s x y)
 
 -- the registers l, after the router in column x and row y has sent this E, or S
-unfoldable pub pushEast : Grid → (x y : ℕ) → Register → List ℕ → List ℕ
+abbrev pub pushEast : Grid → (x y : ℕ) → Register → List ℕ → List ℕ
 pushEast g x y east l = sets l (cellPlace (g .sx) (next (g .sx) x) y) (registerWords east)
 
-unfoldable pub pushSouth : Grid → (x y : ℕ) → Register → List ℕ → List ℕ
+abbrev pub pushSouth : Grid → (x y : ℕ) → Register → List ℕ → List ℕ
 pushSouth g x y south l = sets l (cellPlace (g .sx) x (next (g .sy) y) + registerSize) (registerWords south)
 
 -- after all that this router of the state with words w sends

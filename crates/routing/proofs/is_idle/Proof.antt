@@ -1,6 +1,6 @@
 -- `is_idle`: the definition's own tests.
-use mathlib.Core.Path.{_≡_, sym, ap, _∙_}
-use Prim.Native.Nat.{_+_, _*_, _<_}
+use mathlib.Core.Path.{_≡_, sym, _∙_}
+use Prim.Native.Nat.{_+_, _*_}
 use borrow.Author.Needs.{needs}
 use borrow.Author.Tests.{eq-eqb, ne-eqb}
 use native.Mathlib.Omega.{arith}
@@ -14,7 +14,6 @@ use Rattle.state.proofs.View.{view-count, view-cell}
 use Rattle.cycle.proofs.Facts.{router-fits}
 use Rattle.entry.specs.Entrants.{entrant}
 use Rattle.entry.proofs.Clients.{entrant-fits, entrant-found}
-use Rattle.routing.specs.declared.Grid.{Grid}
 use Rattle.routing.proofs.is_idle.Statement.{statement}
 use Rattle.routing.proofs.is_idle.Tie as tie
 

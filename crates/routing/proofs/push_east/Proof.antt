@@ -4,7 +4,6 @@ use borrow.Author.Needs.{needs}
 use native.Mathlib.Omega.{arith}
 use Rattle.laws.proofs.Grid.{cell-below}
 use Rattle.torus.proofs.Ring.{next-below}
-use Rattle.routing.specs.Walk.{pushEast}
 use Rattle.routing.proofs.push_east.Statement.{statement}
 use Rattle.routing.proofs.push_east.Tie as tie
 
@@ -23,7 +22,6 @@ put-register-requires c κs =
     rw (c .before .router-index .ensures .0, c .before .before .next .ensures) (omega arith)
 
 returns : tie.Need-returns
-unfolding pushEast
 returns c =
     let at = c .before .before .before .before in
     c .before .before .put-register .ensures ∙ rw (at .router-index .ensures .0, at .before .next .ensures)
