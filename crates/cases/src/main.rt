@@ -1,4 +1,6 @@
 // The cases of 01 that are run: each line says what was asked and what was answered, and stdout has what it must be.
+mod files;
+
 use libc::STDOUT_FILENO;
 use plan::Answer;
 
@@ -45,92 +47,6 @@ fn delivered(asked: &[u8], delivery: &[u32]) {
     text(b" ");
     number(delivery[4]);
     text(b"\n");
-}
-
-// The bytes of a plan file of one flow, period 10 and burst 1, with the given start and count: the first 20.
-fn file_of(
-    start: u8,
-    low: u8,
-    high: u8,
-    sx: u8,
-    sy: u8,
-    xs: u8,
-    ys: u8,
-    xd: u8,
-    yd: u8,
-) -> [u8; 28] {
-    [
-        xs,
-        ys,
-        xd,
-        yd,
-        10,
-        0,
-        1,
-        0,
-        start,
-        0,
-        0,
-        0,
-        low,
-        high,
-        sx,
-        sy,
-        72,
-        82,
-        84,
-        80,
-        0,
-        0,
-        0,
-        0,
-        0,
-        0,
-        0,
-        0,
-    ]
-}
-
-fn plan_of(sx: u8, sy: u8, xs: u8, ys: u8, xd: u8, yd: u8) -> [u8; 28] {
-    file_of(0, 1, 0, sx, sy, xs, ys, xd, yd)
-}
-
-fn with_trailer(start: u8, low: u8, high: u8) -> [u8; 28] {
-    file_of(start, low, high, 4, 4, 1, 0, 2, 0)
-}
-
-// A plan file of two flows on 4 by 4: the last byte of the first record, then xd, period and burst of the second.
-fn pair_of(last: u8, xd: u8, period: u8, burst: u8) -> [u8; 28] {
-    [
-        1,
-        0,
-        2,
-        0,
-        10,
-        0,
-        1,
-        last,
-        0,
-        0,
-        xd,
-        0,
-        period,
-        0,
-        burst,
-        0,
-        0,
-        0,
-        0,
-        0,
-        2,
-        0,
-        4,
-        4,
-        72,
-        82,
-        84,
-        80,
-    ]
 }
 
 // A word of the state is changed.
@@ -204,59 +120,73 @@ fn write(
 }
 
 fn reading() {
-    let file = plan_of(4, 4, 1, 0, 2, 0);
+    let file = files::plan_of(4, 4, 1, 0, 2, 0);
     read(b"11 bytes", &file, 11);
     read(b"20 bytes", &file, 20);
     let long = [0u8; 65537];
     read(b"65,537 bytes", &long, 65537);
     read(b"65,536 bytes without the tag", &long, 65536);
-    read(b"Sx 16", &plan_of(16, 4, 1, 0, 2, 0), 20);
-    read(b"Sx 17", &plan_of(17, 4, 1, 0, 2, 0), 20);
-    read(b"Sy 0", &plan_of(4, 0, 1, 0, 2, 0), 20);
+    read(b"Sx 16", &files::plan_of(16, 4, 1, 0, 2, 0), 20);
+    read(b"Sx 17", &files::plan_of(17, 4, 1, 0, 2, 0), 20);
+    read(b"Sy 0", &files::plan_of(4, 0, 1, 0, 2, 0), 20);
 }
 
 // The count's two bytes stand at 12 and 13.
 fn counts() {
-    read(b"count 0", &with_trailer(0, 0, 0), 20);
-    read(b"count 256 in 20 bytes", &with_trailer(0, 0, 1), 20);
-    read(b"count 257", &with_trailer(0, 1, 1), 20);
+    read(b"count 0", &files::with_trailer(0, 0, 0), 20);
+    read(b"count 256 in 20 bytes", &files::with_trailer(0, 0, 1), 20);
+    read(b"count 257", &files::with_trailer(0, 1, 1), 20);
 }
 
 fn starts() {
-    read(b"start 1 without notes", &with_trailer(1, 1, 0), 20);
+    read(b"start 1 without notes", &files::with_trailer(1, 1, 0), 20);
 }
 
 fn flows() {
-    read(b"a column off the torus", &plan_of(4, 4, 1, 0, 4, 0), 20);
-    read(b"flow 1 off the torus", &pair_of(0, 4, 10, 1), 28);
-    read(b"flow 1 with period 0", &pair_of(0, 3, 0, 1), 28);
-    read(b"flow 1 with burst 0", &pair_of(0, 3, 10, 0), 28);
+    read(
+        b"a column off the torus",
+        &files::plan_of(4, 4, 1, 0, 4, 0),
+        20,
+    );
+    read(b"flow 1 off the torus", &files::pair_of(0, 4, 10, 1), 28);
+    read(b"flow 1 with period 0", &files::pair_of(0, 3, 0, 1), 28);
+    read(b"flow 1 with burst 0", &files::pair_of(0, 3, 10, 0), 28);
     read(
         b"flow 0 with a last byte, flow 1 off the torus",
-        &pair_of(9, 4, 10, 1),
+        &files::pair_of(9, 4, 10, 1),
         28,
     );
 }
 
 fn windows() {
-    let file = pair_of(0, 3, 10, 1);
+    let file = files::pair_of(0, 3, 10, 1);
     window(b"window of flow 0", &file, 28, 0);
     window(b"window of flow 1", &file, 28, 1);
     window(b"window of flow 2 of two", &file, 28, 2);
     window(b"window in no plan", &file, 27, 0);
-    window(b"window beside period 1", &pair_of(0, 3, 1, 1), 28, 0);
+    window(
+        b"window beside period 1",
+        &files::pair_of(0, 3, 1, 1),
+        28,
+        0,
+    );
 }
 
 fn flights() {
-    let file = pair_of(0, 3, 10, 1);
+    let file = files::pair_of(0, 3, 10, 1);
     flight(b"flight bound of flow 1", &file, 28, 1);
     flight(b"flight bound of flow 2 of two", &file, 28, 2);
-    flight(b"flight bound beside period 1", &pair_of(0, 3, 1, 1), 28, 0);
+    flight(
+        b"flight bound beside period 1",
+        &files::pair_of(0, 3, 1, 1),
+        28,
+        0,
+    );
 }
 
 // A state of one flow on 4 by 4 has 8 + 10 + 8×4×4 = 146 words, and a step asks for 5×4×4 = 80.
 fn resets(words: &mut [u32]) {
-    let file = plan_of(4, 4, 1, 0, 2, 0);
+    let file = files::plan_of(4, 4, 1, 0, 2, 0);
     reset_first(b"reset of 145 words", &file, 20, words, 145);
     offer(b"offer to words that are no state", words, 146, 0);
     reset_first(b"reset of 146 words", &file, 20, words, 146);
@@ -304,7 +234,7 @@ fn last_cycles(words: &mut [u32], delivery: &mut [u32]) {
 
 // An offer and a step of a flow to its own client: it exits in its entry cycle.
 fn alone(asked: &[u8], sx: u8, sy: u8, x: u8, y: u8, words: &mut [u32], delivery: &mut [u32]) {
-    reset_first(asked, &plan_of(sx, sy, x, y, x, y), 20, words, 146);
+    reset_first(asked, &files::plan_of(sx, sy, x, y, x, y), 20, words, 146);
     offer(b"  offer", words, 146, 0);
     step(b"  step", words, delivery, 80);
     delivered(b"  delivered", delivery);
@@ -387,7 +317,7 @@ fn rows_and_columns(words: &mut [u32], delivery: &mut [u32]) {
 fn writing_back(words: &mut [u32], notes: &[u8], target: &mut [u8]) {
     reset_first(
         b"reset to write",
-        &plan_of(4, 4, 1, 0, 2, 0),
+        &files::plan_of(4, 4, 1, 0, 2, 0),
         20,
         words,
         146,

@@ -96,7 +96,7 @@ pub fn router_index(sx: u32, x: u32, y: u32) -> usize
 }
 
 // Where its registers stand.
-pub fn router_place(state: &[u32], x: u32, y: u32) -> usize
+fn router_place(state: &[u32], x: u32, y: u32) -> usize
     requires { ⌜ StateFacts (now state) ⌝ }
     requires { ⌜ (x < sxIn (now state)) × (y < syIn (now state)) ⌝ }
     ensures { λ r. ⌜ r ≡ routerIn (now (state .entry)) x y ⌝ }

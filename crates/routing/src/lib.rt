@@ -8,6 +8,7 @@ ghost use Prim.Native.Nat.{_+_, _*_, _<_, _≤_};
 ghost use lib.ListN.{length};
 ghost use lib.Seq.{sets};
 ghost use Rattle.laws.specs.Count.{one};
+ghost use Rattle.flow.specs.Plan.{mostFlows};
 ghost use Rattle.state.specs.declared.Register.the-variants.{Empty};
 ghost use Rattle.state.specs.Words.{flowOf};
 ghost use Rattle.state.specs.Read.{sxIn, syIn, countIn, clockIn, stateOf};
@@ -98,7 +99,7 @@ fn sent_at(state: &[u32], x: u32, y: u32, entrants: &[u32]) -> Sent
 
 // Writes what goes E to the W register to the east.
 fn push_east(grid: Grid, x: u32, y: u32, east: Register, next: &mut [u32])
-    requires { ⌜ (OnGrid grid x y) × ((flowOf east < 256) × (registersOf grid ≤ length (now next))) ⌝ }
+    requires { ⌜ (OnGrid grid x y) × ((flowOf east < mostFlows) × (registersOf grid ≤ length (now next))) ⌝ }
     ensures { λ _. ⌜ now (next .exit) ≡ pushEast grid x y east (now (next .entry)) ⌝ }
 {
     let router = cycle::router_index(grid.sx, torus::next(grid.sx, x), y);
@@ -107,7 +108,7 @@ fn push_east(grid: Grid, x: u32, y: u32, east: Register, next: &mut [u32])
 
 // Writes what goes S, and doesn't exit, to the N register to the south.
 fn push_south(grid: Grid, x: u32, y: u32, south: Register, next: &mut [u32])
-    requires { ⌜ (OnGrid grid x y) × ((flowOf south < 256) × (registersOf grid ≤ length (now next))) ⌝ }
+    requires { ⌜ (OnGrid grid x y) × ((flowOf south < mostFlows) × (registersOf grid ≤ length (now next))) ⌝ }
     ensures { λ _. ⌜ now (next .exit) ≡ pushSouth grid x y south (now (next .entry)) ⌝ }
 {
     let router = cycle::router_index(grid.sx, x, torus::next(grid.sy, y));

@@ -16,7 +16,7 @@ pub const MOST_WINDOW: u32 = 65535;
 
 // A rival is kept as three words: its burst, its period and its spread.
 pub const RIVAL_WORDS: usize = 3;
-// A link that is filled, in parts of a packet per cycle: a word holds a sum of two.
+// A link that is filled, in parts of a packet per cycle. A word holds any sum below it and one rate more.
 const WHOLE_LINK: u32 = 2147483648;
 
 // The words of 256 rivals.
