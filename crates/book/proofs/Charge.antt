@@ -14,7 +14,8 @@ use Rattle.laws.proofs.Count.{any-true, count-find, count-map, count-mono, coun
 use Rattle.flow.specs.declared.Flow.{Flow}
 use Rattle.flow.specs.Offsets.{ΔX, portOf, sameClient}
 use Rattle.flow.specs.Plan.{Plan, flowAt, FlowOk}
-use Rattle.book.specs.Line.{W, N, Stage, waiting, placed, left, Line, isWaiting, standsIn, entryOf}
+use Rattle.place.specs.Place.{W, N}
+use Rattle.book.specs.Line.{Stage, waiting, placed, left, Line, isWaiting, standsIn, entryOf}
 use Rattle.book.specs.Book.{Book, bucketAt, ofFlow, waitsFor}
 use Rattle.book.specs.Cycle.{full, westTurns, isOpen, enters, lowest, moveStage, move, stepped}
 use Rattle.book.proofs.Path.{Sound, progress, step-entry}

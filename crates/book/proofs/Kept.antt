@@ -19,7 +19,8 @@ use Rattle.window.specs.Window.{interference}
 use Rattle.book.specs.Line.{Line, isWaiting}
 use Rattle.book.specs.Book.{Book, ofFlow, waitsFor, waitingOf, enteredOf, start, offered, offeredLine}
 use Rattle.book.specs.Cycle.{enters, move, stepped, Delivery}
-use Rattle.book.specs.Calls.{Call, offer, step, refused, refusal, roomFor, lastClock, mostWaiting, Fed, accepted, feed, runFrom, run}
+use Rattle.flow.specs.Limits.{roomFor, lastClock, mostWaiting}
+use Rattle.book.specs.Calls.{Call, offer, step, refused, refusal, Fed, accepted, feed, runFrom, run}
 use Rattle.book.proofs.Moves.{turn, waited}
 use Rattle.book.proofs.Queue.{entered-step, entered-offer}
 use Rattle.book.proofs.Spans.{Lawful, lawful-start, lawful-offer, lawful-step}

@@ -17,7 +17,8 @@ use Rattle.flow.specs.declared.Port.{Port}
 use Rattle.flow.specs.declared.Port.the-variants.{East, South}
 use Rattle.flow.specs.Offsets.{portOf, samePort}
 use Rattle.flow.specs.Plan.{Plan, flowAt}
-use Rattle.book.specs.Line.{Place, W, N, Stage, waiting, placed, left, Line, isWaiting, standsIn}
+use Rattle.place.specs.Place.{Place, W, N}
+use Rattle.book.specs.Line.{Stage, waiting, placed, left, Line, isWaiting, standsIn}
 use Rattle.book.specs.Book.{Book, ofFlow}
 use Rattle.book.specs.Cycle.{full, turns, westTurns, isOpen, enters, lowest, leaves, leavesBy}
 use Rattle.book.proofs.Entries.{turns-any, turns-some, client-same, entering-ready, one-enters}

@@ -12,17 +12,18 @@ use borrow.Author.Tests.{lt-ltb, le-ltb, eq-eqb, ne-eqb}
 use lib.Dec.{eqb}
 use Rattle.laws.specs.Count.{one}
 use Rattle.laws.proofs.Cases.{test}
-use Rattle.torus.specs.Ring.{offset, next, lap}
-use Rattle.torus.proofs.Ring.{offset-below, offset-same, offset-zero, offset-on, offset-short, next-below, lap-first, lap-next, lap-whole, lap-most}
+use Rattle.torus.specs.Axis.{offset, next, lap}
+use Rattle.torus.proofs.Axis.{offset-below, offset-same, offset-zero, offset-on, offset-short, next-below, lap-first, lap-next, lap-whole, lap-most}
 use Rattle.flow.specs.declared.Flow.{Flow}
 use Rattle.flow.specs.declared.Port.the-variants.{East, South}
 use Rattle.flow.specs.Offsets.{ΔX, ΔY, portOf}
 use Rattle.flow.specs.Plan.{Plan, FlowOk}
 use Rattle.window.specs.Flight.{travel}
-use Rattle.book.specs.Line.{Place, W, N, columnOf, rowOf, Stage, waiting, placed, left, isWaiting, entryOf}
+use Rattle.place.specs.Place.{Place, W, N, columnOf, rowOf}
+use Rattle.book.specs.Line.{Stage, waiting, placed, left, isWaiting, entryOf}
 use Rattle.book.specs.Book.{Book}
 use Rattle.book.specs.Cycle.{westTurns, output, deflects, sent}
-use Rattle.book.specs.InPlace.{rowsDone}
+use Rattle.place.specs.InPlace.{rowsDone}
 
 module _ (p : Plan) (f : Flow) where
   abbrev sx : ℕ

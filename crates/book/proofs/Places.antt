@@ -11,14 +11,15 @@ use lib.Dec.{eqb}
 use Rattle.laws.specs.Count.{count, any}
 use Rattle.laws.proofs.Cases.{test, and-true}
 use Rattle.laws.proofs.Count.{any-true, none-count, count-map, count-mono, count-append}
-use Rattle.torus.specs.Ring.{next}
-use Rattle.torus.proofs.Ring.{next-below, next-one, next-of}
+use Rattle.torus.specs.Axis.{next}
+use Rattle.torus.proofs.Axis.{next-below, next-one, next-of}
 use Rattle.flow.specs.declared.Flow.{Flow}
 use Rattle.flow.specs.declared.Port.{Port}
 use Rattle.flow.specs.declared.Port.the-variants.{East, South}
 use Rattle.flow.specs.Offsets.{portOf, samePort}
 use Rattle.flow.specs.Plan.{Plan, flowAt, FlowOk}
-use Rattle.book.specs.Line.{Place, W, N, columnOf, rowOf, samePlace, Stage, waiting, placed, left, Line, standsIn}
+use Rattle.place.specs.Place.{Place, W, N, columnOf, rowOf, samePlace}
+use Rattle.book.specs.Line.{Stage, waiting, placed, left, Line, standsIn}
 use Rattle.book.specs.Book.{Book, offered, offeredLine}
 use Rattle.book.specs.Cycle.{output, enters, lowest, sent, leaves, leavesBy, moveStage, move, stepped}
 use Rattle.book.proofs.Path.{Sound, placed-on}

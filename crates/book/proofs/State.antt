@@ -5,14 +5,15 @@ use mathlib.Core.Path.{_≡_, ap, _∙_}
 use Prim.Native.Nat.{ℕ, _+_, _-_, _*_, _≤_}
 use native.Mathlib.Omega.{arith}
 use borrow.Author.Tests.{le-leb, eq-eqb, ne-eqb}
-use Rattle.torus.specs.Ring.{offset, lap}
-use Rattle.torus.proofs.Ring.{offset-same, lap-most}
+use Rattle.torus.specs.Axis.{offset, lap}
+use Rattle.torus.proofs.Axis.{offset-same, lap-most}
 use Rattle.flow.specs.declared.Flow.{Flow}
 use Rattle.flow.specs.Offsets.{ΔX, ΔY}
 use Rattle.flow.specs.Plan.{Plan, FlowOk}
 use Rattle.window.specs.Flight.{travel, mostDeflections}
-use Rattle.book.specs.Line.{Place, W, N, Stage, waiting, placed, left}
-use Rattle.book.specs.InPlace.{rowsDone, inPlace}
+use Rattle.place.specs.Place.{Place, W, N}
+use Rattle.book.specs.Line.{Stage, waiting, placed, left}
+use Rattle.place.specs.InPlace.{rowsDone, inPlace}
 use Rattle.book.specs.Promises.{Flies}
 use Rattle.book.proofs.Path.{Sound, placed-on}
 

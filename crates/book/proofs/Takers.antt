@@ -9,18 +9,19 @@ use native.Mathlib.Omega.{arith}
 use borrow.Author.Tests.{le-leb, eq-eqb, ne-eqb}
 use lib.Dec.{ltb}
 use Rattle.laws.proofs.Cases.{test}
-use Rattle.torus.specs.Ring.{offset, lap}
-use Rattle.torus.proofs.Ring.{offset-same}
+use Rattle.torus.specs.Axis.{offset, lap}
+use Rattle.torus.proofs.Axis.{offset-same}
 use Rattle.flow.specs.declared.Flow.{Flow}
 use Rattle.flow.specs.declared.Port.{Port}
 use Rattle.flow.specs.declared.Port.the-variants.{East, South}
 use Rattle.flow.specs.Offsets.{ΔX, ΔY, portOf, sameClient}
 use Rattle.flow.specs.Plan.{Plan, flowAt, FlowOk}
 use Rattle.window.specs.Conflict.{rowsTo, columnsTo}
-use Rattle.book.specs.Line.{Place, W, N, columnOf, rowOf, Stage, waiting, placed, left, Line, isWaiting, entryOf}
+use Rattle.place.specs.Place.{Place, W, N, columnOf, rowOf}
+use Rattle.book.specs.Line.{Stage, waiting, placed, left, Line, isWaiting, entryOf}
 use Rattle.book.specs.Book.{Book}
 use Rattle.book.specs.Cycle.{westTurns, output, enters, lowest, sent}
-use Rattle.book.specs.InPlace.{rowsDone}
+use Rattle.place.specs.InPlace.{rowsDone}
 use Rattle.book.proofs.Path.{Sound, progress, progress-row, placed-south, along-first, along-later, step-placed}
 use Rattle.book.proofs.Path
 use Rattle.book.proofs.Entries.{client-parts}

@@ -1,10 +1,11 @@
 -- The calls that the packet book is fed, its answers, and a list of calls from the start (01, The packet book; When a call says no).
 use mathlib.Core.Bool.{cond}
 use mathlib.Core.List.{List, [], _∷_, _++_}
-use Prim.Native.Nat.{ℕ, zero, suc, _*_}
+use Prim.Native.Nat.{ℕ, zero, suc}
 use lib.Dec.{ltb, leb, eqb}
 use lib.ListN.{length}
 use Rattle.flow.specs.Plan.{Plan}
+use Rattle.flow.specs.Limits.{roomFor, lastClock, mostWaiting}
 use Rattle.book.specs.Book.{Book, start, offered, waitingOf}
 use Rattle.book.specs.Cycle.{stepped, Delivery, deliveries}
 
@@ -16,18 +17,6 @@ pub data Call : Type 0 where
 pub data Reply : Type 0 where
   done : ℕ → Reply
   refused : (number place : ℕ) → Reply
-
--- a step asks for 5×Sx×Sy words of delivery memory
-abbrev pub roomFor : Plan → ℕ
-roomFor p = 5 * (p .sx * p .sy)
-
--- the clock of the last state
-abbrev pub lastClock : ℕ
-lastClock = 4294967295
-
--- a flow's most waiting packets
-abbrev pub mostWaiting : ℕ
-mostWaiting = 65535
 
 -- the number of the table, judged by the plan and the book's clock and lines; 0 for a call that isn't refused
 unfoldable pub refusal : Plan → Book → Call → ℕ

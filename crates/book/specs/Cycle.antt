@@ -6,14 +6,15 @@ use lib.Dec.{ltb, eqb}
 use lib.ListN.{length}
 use Rattle.laws.specs.Bounded.{anyBelow, tabulate}
 use Rattle.laws.specs.Count.{one, any, keep, joinBelow}
-use Rattle.torus.specs.Ring.{next}
+use Rattle.torus.specs.Axis.{next}
 use Rattle.flow.specs.declared.Flow.{Flow}
 use Rattle.flow.specs.declared.Port.{Port}
 use Rattle.flow.specs.declared.Port.the-variants.{East, South}
 use Rattle.flow.specs.Offsets.{portOf, sameClient, samePort}
 use Rattle.flow.specs.Plan.{Plan, flowAt}
 use Rattle.bucket.specs.Regulator.{afterCycle}
-use Rattle.book.specs.Line.{Place, W, N, columnOf, rowOf, Stage, waiting, placed, left, Line, standsIn, leftAt, entryOf, exitOf}
+use Rattle.place.specs.Place.{Place, W, N, columnOf, rowOf}
+use Rattle.book.specs.Line.{Stage, waiting, placed, left, Line, standsIn, leftAt, entryOf, exitOf}
 use Rattle.book.specs.Book.{Book, bucketAt, waitsFor}
 
 -- a register holds a packet

@@ -3,6 +3,5 @@ pub mod Line
 pub mod Book
 pub mod Cycle
 pub mod Calls
-pub mod InPlace
 pub mod Promises
 pub mod Cases

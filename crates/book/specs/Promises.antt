@@ -15,11 +15,12 @@ use Rattle.bucket.specs.Regulator.{bucketFits}
 use Rattle.window.specs.declared.Found.the-variants.{At}
 use Rattle.window.specs.Window.{windowOf}
 use Rattle.window.specs.Flight.{travel, mostDeflections}
-use Rattle.book.specs.Line.{Place, columnOf, rowOf, Stage, waiting, placed, left, Line, isWaiting, isLeft, standsIn}
+use Rattle.place.specs.Place.{Place, columnOf, rowOf}
+use Rattle.book.specs.Line.{Stage, waiting, placed, left, Line, isWaiting, isLeft, standsIn}
 use Rattle.book.specs.Book.{Book, bucketAt, ofFlow, totalOf, waitingOf, enteredOf}
 use Rattle.book.specs.Cycle.{ready, enters, leavesBy, Delivery, deliveryOf}
-use Rattle.book.specs.Calls.{lastClock, mostWaiting}
-use Rattle.book.specs.InPlace.{inPlace}
+use Rattle.flow.specs.Limits.{lastClock, mostWaiting}
+use Rattle.place.specs.InPlace.{inPlace}
 
 -- offer + (q+1)×(P+T−1) − 1
 abbrev pub deadline : Plan → Line → (T : ℕ) → ℕ

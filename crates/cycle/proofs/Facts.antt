@@ -9,12 +9,12 @@ use borrow.Author.Tests.{leb-true}
 use lib.Dec.{leb, eqb}
 use lib.ListN.{length}
 use Rattle.laws.proofs.Cases.{and-true}
-use Rattle.torus.proofs.Ring.{offset-below}
+use Rattle.torus.proofs.Axis.{offset-below}
 use Rattle.flow.specs.declared.Flow.{Flow}
 use Rattle.flow.specs.Offsets.{ΔX, ΔY}
 use Rattle.flow.specs.Plan.{flowAt, FlowOk}
-use Rattle.book.specs.Line.{Place, W, N}
-use Rattle.book.specs.InPlace.{inPlace, inNorth, rowsDone}
+use Rattle.place.specs.Place.{Place, W, N}
+use Rattle.place.specs.InPlace.{inPlace, inNorth, rowsDone}
 use Rattle.state.specs.declared.Register.{Register}
 use Rattle.state.specs.declared.Register.the-variants.{Empty, Packet}
 use Rattle.state.specs.Layout.{registerSize, routerSize, flowPlace}

@@ -8,7 +8,7 @@ use Rattle.laws.specs.Bounded.{sumBelow}
 use Rattle.laws.specs.Count.{one}
 use Rattle.plan.specs.declared.Answer.{Answer}
 use Rattle.plan.specs.declared.Answer.the-variants.{Done, Refused}
-use Rattle.book.specs.Calls.{roomFor, lastClock, mostWaiting}
+use Rattle.flow.specs.Limits.{roomFor, lastClock, mostWaiting}
 use Rattle.state.specs.State.{State, tallyAt}
 use Rattle.state.specs.Words.{stateWords}
 use Rattle.state.specs.Read.{stateOf, countIn, clockIn, planIn}

@@ -6,7 +6,7 @@ use lib.ListN.{length}
 use Rattle.laws.specs.Bounded.{tabulate}
 use Rattle.laws.specs.Count.{one, joinBelow}
 use Rattle.laws.specs.Grid.{grid}
-use Rattle.torus.specs.Ring.{previous}
+use Rattle.torus.specs.Axis.{previous}
 use Rattle.flow.specs.declared.Flow.{Flow}
 use Rattle.flow.specs.declared.Port.the-variants.{East, South}
 use Rattle.flow.specs.Plan.{flowAt}

@@ -18,7 +18,7 @@ use Rattle.state.specs.Words.{headerWords, tallyWords, flowWords, cellWords, st
 use Rattle.state.specs.Read.{countIn, stateOf}
 use Rattle.state.specs.Forms.{sizeIn, stateNumber}
 use Rattle.plan.specs.declared.Answer.the-variants.{Done}
-use Rattle.book.specs.Calls.{mostWaiting}
+use Rattle.flow.specs.Limits.{mostWaiting}
 use Rattle.state.specs.Outcome.{Outcome, outcome, refused, unless, over}
 use Rattle.state.proofs.Forms.{StateFacts, state-facts}
 use Rattle.state.proofs.Words.{header-stands, flow-stands, cell-stands, length-words, words-stand}

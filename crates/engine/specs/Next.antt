@@ -7,7 +7,7 @@ use lib.Dec.{leb}
 use lib.ListN.{set, take}
 use lib.Seq.{sets}
 use Rattle.laws.specs.Turns.{turns}
-use Rattle.book.specs.Calls.{mostWaiting}
+use Rattle.flow.specs.Limits.{mostWaiting}
 use Rattle.state.specs.Layout.{flowPlace}
 use Rattle.state.specs.State.{tallyAt}
 use Rattle.state.specs.Read.{countIn, clockIn, stateOf}

@@ -1,3 +1,4 @@
 -- A flow and a plan, in 01's words.
 pub mod Offsets
 pub mod Plan
+pub mod Limits

@@ -5,7 +5,7 @@ use lib.Dec.{ltb, eqb}
 use Rattle.flow.specs.declared.Flow.{Flow}
 use Rattle.flow.specs.declared.Port.{Port}
 use Rattle.flow.specs.declared.Port.the-variants.{East, South}
-use Rattle.torus.specs.Ring.{offset}
+use Rattle.torus.specs.Axis.{offset}
 
 -- ΔX = (xd − xs) mod Sx
 abbrev pub ΔX : ℕ → Flow → ℕ

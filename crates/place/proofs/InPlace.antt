@@ -6,13 +6,13 @@ use Prim.Native.Nat.{ℕ, _*_, _≤_, _<_}
 use native.Mathlib.Nat.{mul-le-mul}
 use native.Mathlib.Omega.{arith}
 use borrow.Author.Tests.{lt-leb}
-use Rattle.torus.specs.Ring.{lap}
-use Rattle.torus.proofs.Ring.{offset-below, lap-cases}
+use Rattle.torus.specs.Axis.{lap}
+use Rattle.torus.proofs.Axis.{offset-below, lap-cases}
 use Rattle.flow.specs.declared.Flow.{Flow}
 use Rattle.flow.specs.Offsets.{ΔX}
 use Rattle.flow.specs.Plan.{FlowOk, mostSize}
-use Rattle.book.specs.Line.{Place, W, N}
-use Rattle.book.specs.InPlace.{inPlace}
+use Rattle.place.specs.Place.{Place, W, N}
+use Rattle.place.specs.InPlace.{inPlace}
 
 pub across-below : (sx sy : ℕ) (f : Flow) → FlowOk sx sy f → ΔX sx f < sx
 across-below sx sy f ok = offset-below sx (f .xs) (f .xd) (ok .xs-on) (ok .xd-on)

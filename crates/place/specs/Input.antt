@@ -1,6 +1,6 @@
 -- The link register that feeds an input of a router (01, State memory: W before N).
 use Prim.Native.Nat.{ℕ}
-use Rattle.book.specs.Line.{Place, W, N}
+use Rattle.place.specs.Place.{Place, W, N}
 use Rattle.place.specs.declared.Input.{Input}
 use Rattle.place.specs.declared.Input.the-variants.{West, North}
 

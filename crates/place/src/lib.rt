@@ -1,9 +1,9 @@
-// Where a packet can be: 01's conditions on a register's packet, decided. Rests on torus and flow, and on the book's definitions.
+// Where a packet can be: 01's conditions on a register's packet, decided. Rests on torus and flow.
 use flow::Flow;
 ghost use mathlib.Core.Path.{_≡_};
 ghost use Prim.Native.Nat.{_≤_, _<_};
 ghost use Rattle.flow.specs.Plan.{FlowOk, mostSize};
-ghost use Rattle.book.specs.InPlace.{inNorth, inFirstRow, inLaterRow, inPlace};
+ghost use Rattle.place.specs.InPlace.{inNorth, inFirstRow, inLaterRow, inPlace};
 ghost use Rattle.place.specs.Input.{placeOf};
 
 // The input of a router that a link register feeds.

@@ -16,7 +16,7 @@ use Rattle.plan.specs.declared.Answer.the-variants.{Done, Refused}
 use Rattle.plan.specs.Layout.{planOf}
 use Rattle.plan.specs.Refusals.{planAnswer}
 use Rattle.plan.proofs.Ranges.{Bytes, plan-ok}
-use Rattle.book.specs.Line.{W, N}
+use Rattle.place.specs.Place.{W, N}
 use Rattle.state.specs.State.{tallyAt, cellAt, freshTally, emptyCell, resetState}
 use Rattle.state.specs.Words.{stateWords}
 use Rattle.state.specs.Read.{planIn}

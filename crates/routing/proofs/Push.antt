@@ -12,8 +12,8 @@ use Rattle.laws.specs.Turns.{turns}
 use Rattle.laws.proofs.Grid.{cell-below, cell-one}
 use Rattle.laws.proofs.Stands.{Stands, stands-sets, stands-other, stands-append}
 use Rattle.laws.proofs.Turns.{turns-keep, turns-fill}
-use Rattle.torus.specs.Ring.{next, previous}
-use Rattle.torus.proofs.Ring.{next-below, next-one, next-previous, previous-below}
+use Rattle.torus.specs.Axis.{next, previous}
+use Rattle.torus.proofs.Axis.{next-below, next-one, next-previous, previous-below}
 use Rattle.state.specs.declared.Register.{Register}
 use Rattle.state.specs.Layout.{registerSize, routerSize}
 use Rattle.state.specs.Words.{registerWords}

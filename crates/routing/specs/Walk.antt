@@ -7,7 +7,7 @@ use Rattle.laws.specs.Bounded.{sumBelow}
 use Rattle.laws.specs.Count.{one, joinBelow}
 use Rattle.laws.specs.Grid.{cellIndex}
 use Rattle.laws.specs.Turns.{turns}
-use Rattle.torus.specs.Ring.{next}
+use Rattle.torus.specs.Axis.{next}
 use Rattle.flow.specs.Plan.{mostSize}
 use Rattle.state.specs.declared.Register.{Register}
 use Rattle.state.specs.declared.Register.the-variants.{Empty}

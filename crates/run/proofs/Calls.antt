@@ -12,7 +12,8 @@ use Rattle.flow.specs.Plan.{Plan}
 use Rattle.plan.specs.declared.Answer.the-variants.{Refused}
 use Rattle.book.specs.Book.{Book, waitingOf}
 use Rattle.book.specs.Cycle.{wordsOf}
-use Rattle.book.specs.Calls.{Fed, feed, refusal, roomFor, lastClock, mostWaiting}
+use Rattle.flow.specs.Limits.{roomFor, lastClock, mostWaiting}
+use Rattle.book.specs.Calls.{Fed, feed, refusal}
 use Rattle.book.specs.Calls as BookCalls
 use Rattle.book.proofs.Kept.{Kept}
 use Rattle.state.specs.Outcome.{outcome, refused, unless, over}

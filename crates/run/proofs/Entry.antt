@@ -11,7 +11,7 @@ use Rattle.flow.specs.declared.Port.{Port}
 use Rattle.flow.specs.declared.Port.the-variants.{East, South}
 use Rattle.flow.specs.Offsets.{portOf, sameClient}
 use Rattle.flow.specs.Plan.{Plan, flowAt}
-use Rattle.book.specs.Line.{W, N}
+use Rattle.place.specs.Place.{W, N}
 use Rattle.book.specs.Book.{Book, waitsFor}
 use Rattle.book.specs.Cycle.{isOpen}
 use Rattle.book.specs.Cycle

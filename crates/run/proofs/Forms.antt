@@ -9,10 +9,11 @@ use lib.ListN.{length}
 use Rattle.laws.specs.Count.{keep}
 use Rattle.laws.proofs.Keep.{kept}
 use Rattle.flow.specs.Plan.{Plan, flowAt}
-use Rattle.book.specs.Line.{Place, W, N, Stage, waiting, placed, left, Line, standsIn, entryOf}
+use Rattle.place.specs.Place.{Place, W, N}
+use Rattle.book.specs.Line.{Stage, waiting, placed, left, Line, standsIn, entryOf}
 use Rattle.book.specs.Book.{Book, waitingOf, enteredOf}
-use Rattle.book.specs.Calls.{mostWaiting}
-use Rattle.book.specs.InPlace.{inPlace}
+use Rattle.flow.specs.Limits.{mostWaiting}
+use Rattle.place.specs.InPlace.{inPlace}
 use Rattle.book.specs.Promises.{InState}
 use Rattle.book.proofs.Kept.{Kept}
 use Rattle.book.proofs.Promises.{in-state, flow-in-state}

@@ -15,7 +15,8 @@ use Rattle.plan.specs.Layout.{planOf}
 use Rattle.plan.proofs.Ranges.{plan-ok}
 use Rattle.book.specs.Book.{Book, start, waitingOf}
 use Rattle.book.specs.Cycle.{Delivery, deliveries, wordsOf}
-use Rattle.book.specs.Calls.{Fed, feed, refusal, mostWaiting, runFrom}
+use Rattle.flow.specs.Limits.{mostWaiting}
+use Rattle.book.specs.Calls.{Fed, feed, refusal, runFrom}
 use Rattle.book.specs.Calls as BookCalls
 use Rattle.book.proofs.Kept.{Kept, feed-cases, kept-start, kept-feed, kept-run}
 use Rattle.book.proofs.Promises.{promises}

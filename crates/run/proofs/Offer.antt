@@ -18,7 +18,7 @@ use Rattle.laws.proofs.Keep.{keep-append}
 use Rattle.laws.proofs.Grid.{tabulate-same, grid-same}
 use Rattle.flow.specs.Plan.{Plan, flowAt}
 use Rattle.bucket.specs.Regulator.{fullBucket}
-use Rattle.book.specs.Line.{Place, W, N}
+use Rattle.place.specs.Place.{Place, W, N}
 use Rattle.book.specs.Book.{Book, bucketAt, start, waitsFor, waitingOf, enteredOf, offeredLine, offered}
 use Rattle.book.proofs.Queue.{entered-offer}
 use Rattle.state.specs.declared.Tally.{Tally}

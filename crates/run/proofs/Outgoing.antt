@@ -16,7 +16,8 @@ use Rattle.laws.proofs.Keep.{kept}
 use Rattle.flow.specs.declared.Port.{Port}
 use Rattle.flow.specs.declared.Port.the-variants.{East, South}
 use Rattle.flow.specs.Plan.{Plan, flowAt}
-use Rattle.book.specs.Line.{Place, W, N, Stage, waiting, placed, left, Line, standsIn, entryOf}
+use Rattle.place.specs.Place.{Place, W, N}
+use Rattle.book.specs.Line.{Stage, waiting, placed, left, Line, standsIn, entryOf}
 use Rattle.book.specs.Book.{Book}
 use Rattle.book.specs.Cycle.{westTurns, deflects, deflected, isOpen, moveStage, leaves, leavesBy, move}
 use Rattle.book.proofs.Moves.{sent-entry}

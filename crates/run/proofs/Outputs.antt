@@ -13,7 +13,8 @@ use Rattle.laws.proofs.Keep.{keep-same}
 use Rattle.flow.specs.declared.Port.{Port}
 use Rattle.flow.specs.declared.Port.the-variants.{East, South}
 use Rattle.flow.specs.Plan.{Plan}
-use Rattle.book.specs.Line.{Place, W, N, Line}
+use Rattle.place.specs.Place.{Place, W, N}
+use Rattle.book.specs.Line.{Line}
 use Rattle.book.specs.Book.{Book}
 use Rattle.book.specs.Cycle.{full, westTurns, deflects, leavesBy, move}
 use Rattle.state.specs.declared.Register.{Register}

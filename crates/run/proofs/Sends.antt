@@ -11,13 +11,14 @@ use lib.Dec.{eqb}
 use Rattle.flow.specs.Offsets.{samePort}
 use Rattle.laws.proofs.Cases.{test}
 use Rattle.laws.proofs.Cases as Cases
-use Rattle.torus.specs.Ring.{next}
-use Rattle.torus.proofs.Ring.{next-one}
+use Rattle.torus.specs.Axis.{next}
+use Rattle.torus.proofs.Axis.{next-one}
 use Rattle.flow.specs.declared.Flow.{Flow}
 use Rattle.flow.specs.declared.Port.{Port}
 use Rattle.flow.specs.declared.Port.the-variants.{East, South}
 use Rattle.flow.specs.Plan.{Plan, flowAt, FlowOk}
-use Rattle.book.specs.Line.{W, N, Stage, waiting, placed, left, Line, standsIn, leftAt}
+use Rattle.place.specs.Place.{W, N}
+use Rattle.book.specs.Line.{Stage, waiting, placed, left, Line, standsIn, leftAt}
 use Rattle.book.specs.Book.{Book}
 use Rattle.book.specs.Cycle.{sent, enters, lowest, leaves, moveStage}
 use Rattle.book.proofs.Path.{Sound, placed-on}

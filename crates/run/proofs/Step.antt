@@ -12,14 +12,15 @@ use Rattle.laws.proofs.Bounded.{getD-tabulate}
 use Rattle.laws.proofs.Count.{count-map, count-sum}
 use Rattle.laws.proofs.Keep.{few, kept, keep-all, keep-same, keep-both, keep-map, length-keep}
 use Rattle.laws.proofs.Grid.{tabulate-same, grid-same}
-use Rattle.torus.specs.Ring.{next, previous}
-use Rattle.torus.proofs.Ring.{previous-below, next-previous}
+use Rattle.torus.specs.Axis.{next, previous}
+use Rattle.torus.proofs.Axis.{previous-below, next-previous}
 use Rattle.flow.specs.declared.Flow.{Flow}
 use Rattle.flow.specs.declared.Port.{Port}
 use Rattle.flow.specs.declared.Port.the-variants.{East, South}
 use Rattle.flow.specs.Plan.{Plan, flowAt}
 use Rattle.bucket.specs.Regulator.{fullBucket, afterCycle}
-use Rattle.book.specs.Line.{W, N, Stage, Line, isWaiting}
+use Rattle.place.specs.Place.{W, N}
+use Rattle.book.specs.Line.{Stage, Line, isWaiting}
 use Rattle.book.specs.Book.{Book, bucketAt, ofFlow, waitsFor, waitingOf}
 use Rattle.book.specs.Cycle.{enters, leavesBy, move, stepped}
 use Rattle.book.proofs.Moves.{goes, Turn, keeps, stays, comes, turn}

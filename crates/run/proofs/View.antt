@@ -14,7 +14,8 @@ use Rattle.laws.proofs.Bounded.{getD-tabulate}
 use Rattle.laws.proofs.Grid.{getD-grid}
 use Rattle.laws.proofs.Keep.{few, any-both, length-keep, keep-one}
 use Rattle.flow.specs.Plan.{Plan, flowAt}
-use Rattle.book.specs.Line.{Place, W, N, samePlace, Line}
+use Rattle.place.specs.Place.{Place, W, N, samePlace}
+use Rattle.book.specs.Line.{Line}
 use Rattle.book.specs.Book.{Book}
 use Rattle.book.specs.Cycle.{full, westTurns}
 use Rattle.book.proofs.Outputs.{Apart}

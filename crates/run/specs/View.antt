@@ -7,7 +7,8 @@ use Rattle.laws.specs.Bounded.{tabulate}
 use Rattle.laws.specs.Count.{keep}
 use Rattle.laws.specs.Grid.{grid}
 use Rattle.flow.specs.Plan.{Plan}
-use Rattle.book.specs.Line.{Place, W, N, Line, standsIn, entryOf}
+use Rattle.place.specs.Place.{Place, W, N}
+use Rattle.book.specs.Line.{Line, standsIn, entryOf}
 use Rattle.book.specs.Book.{Book, bucketAt, waitingOf, enteredOf}
 use Rattle.state.specs.declared.Register.{Register}
 use Rattle.state.specs.declared.Register.the-variants.{Empty, Packet}

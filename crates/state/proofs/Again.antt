@@ -10,7 +10,7 @@ use lib.ListN.{length, getD, drop}
 use Rattle.laws.specs.Bounded.{tabulate}
 use Rattle.laws.proofs.Stands.{Stands, stands-entries, stands-append, stands-start}
 use Rattle.flow.specs.Plan.{flowAt}
-use Rattle.book.specs.Line.{W, N}
+use Rattle.place.specs.Place.{W, N}
 use Rattle.state.specs.declared.Register.the-variants.{Empty}
 use Rattle.state.specs.Layout.{headerSize, flowSize, registerSize, flowPlace, routerPlace}
 use Rattle.state.specs.State.{tallyAt, cellAt}

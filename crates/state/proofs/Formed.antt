@@ -13,8 +13,8 @@ use Rattle.laws.proofs.Bounded.{all-intro}
 use Rattle.laws.proofs.Stands.{Stands}
 use Rattle.flow.specs.declared.Flow.{Flow}
 use Rattle.flow.specs.Plan.{FlowOk, PlanOk, flowAt}
-use Rattle.book.specs.Line.{Place, W, N}
-use Rattle.book.specs.InPlace.{inPlace}
+use Rattle.place.specs.Place.{Place, W, N}
+use Rattle.place.specs.InPlace.{inPlace}
 use Rattle.state.specs.declared.Register.{Register}
 use Rattle.state.specs.declared.Register.the-variants.{Empty, Packet}
 use Rattle.state.specs.Layout.{headerSize, registerSize, flowPlace, routerPlace}

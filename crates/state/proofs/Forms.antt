@@ -19,9 +19,9 @@ use Rattle.flow.specs.Plan.{FlowOk, onTorus, mostSize, mostFlows, mostPeriod, m
 use Rattle.bucket.specs.Regulator.{bucketFits}
 use Rattle.plan.specs.Refusals.{sizeOk}
 use Rattle.plan.proofs.Accepted.{SizeOk, size-ok}
-use Rattle.book.specs.Line.{Place, W, N}
-use Rattle.book.specs.Calls.{mostWaiting}
-use Rattle.book.specs.InPlace.{inPlace}
+use Rattle.place.specs.Place.{Place, W, N}
+use Rattle.flow.specs.Limits.{mostWaiting}
+use Rattle.place.specs.InPlace.{inPlace}
 use Rattle.state.specs.declared.Register.the-variants.{Empty, Packet}
 use Rattle.state.specs.declared.Tally.{Tally}
 use Rattle.state.specs.Layout.{headerSize, registerSize, flowPlace}

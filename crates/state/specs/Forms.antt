@@ -10,9 +10,9 @@ use Rattle.flow.specs.declared.Flow.{Flow}
 use Rattle.flow.specs.Plan.{onTorus, mostFlows, mostPeriod, mostBurst}
 use Rattle.bucket.specs.Regulator.{bucketFits}
 use Rattle.plan.specs.Refusals.{sizeOk}
-use Rattle.book.specs.Line.{Place, W, N}
-use Rattle.book.specs.Calls.{mostWaiting}
-use Rattle.book.specs.InPlace.{inPlace}
+use Rattle.place.specs.Place.{Place, W, N}
+use Rattle.flow.specs.Limits.{mostWaiting}
+use Rattle.place.specs.InPlace.{inPlace}
 use Rattle.state.specs.declared.Register.{Register}
 use Rattle.state.specs.declared.Register.the-variants.{Empty, Packet}
 use Rattle.state.specs.Layout.{headerSize, registerSize, flowPlace, stateSize}

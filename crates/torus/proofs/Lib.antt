@@ -1,2 +1,2 @@
--- The laws of the ring, over every size.
-pub mod Ring
+-- The laws of offsets and neighbours, over every size.
+pub mod Axis

@@ -1,2 +1,2 @@
 -- Offsets and neighbours, in 01's words.
-pub mod Ring
+pub mod Axis

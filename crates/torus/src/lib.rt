@@ -1,7 +1,7 @@
 // The torus: offsets and neighbours along one row or column. Rests on laws.
 ghost use mathlib.Core.Path.{_≡_};
 ghost use Prim.Native.Nat.{_<_};
-ghost use Rattle.torus.specs.Ring.{offset, next, lap};
+ghost use Rattle.torus.specs.Axis.{offset, next, lap};
 
 // How far `to` lies after `from`, going round: 01's (to − from) mod size.
 pub fn offset(size: u32, from: u32, to: u32) -> u32

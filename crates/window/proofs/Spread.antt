@@ -6,7 +6,7 @@ use native.Mathlib.Nat.{le-trans, mul-le-mul-left, mul-le-mul-right}
 use native.Mathlib.Omega.{arith}
 use lib.Dec.{ltb, leb, eqb}
 use Rattle.laws.proofs.Cases.{test}
-use Rattle.torus.proofs.Ring.{offset-below}
+use Rattle.torus.proofs.Axis.{offset-below}
 use Rattle.flow.specs.declared.Flow.{Flow}
 use Rattle.flow.specs.Offsets.{ΔX, ΔY, sameClient}
 use Rattle.window.specs.declared.Conflict.{Conflict}

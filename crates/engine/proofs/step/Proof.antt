@@ -11,7 +11,7 @@ use lib.Dec.{ltb, eqb}
 use lib.ListN.{length}
 use Rattle.laws.proofs.Cases.{passed}
 use Rattle.plan.specs.declared.Answer.the-variants.{Refused}
-use Rattle.book.specs.Calls.{lastClock}
+use Rattle.flow.specs.Limits.{lastClock}
 use Rattle.state.specs.Read.{sxIn, syIn, clockIn, planIn}
 use Rattle.state.proofs.Forms.{state-facts}
 use Rattle.cycle.specs.Calls.{StepOutcome, stepOutcome, unlessStep, stepNumber, stepOn}

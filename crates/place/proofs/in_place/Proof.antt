@@ -1,9 +1,9 @@
 -- `in_place`: by the input, and in W by the row.
 use Prim.Native.Nat.{_≤_}
 use native.Mathlib.Omega.{arith}
-use Rattle.torus.proofs.Ring.{offset-below}
+use Rattle.torus.proofs.Axis.{offset-below}
 use Rattle.flow.specs.Plan.{mostSize}
-use Rattle.book.specs.InPlace.{inPlace}
+use Rattle.place.specs.InPlace.{inPlace}
 use borrow.Author.Tests.{le-leb, eq-eqb, ne-eqb}
 use Rattle.place.proofs.InPlace.{too-early}
 use borrow.Author.Needs.{needs}

@@ -3,7 +3,7 @@ use mathlib.Core.Path.{_∙_}
 use borrow.Author.Needs.{needs}
 use native.Mathlib.Omega.{arith}
 use Rattle.laws.proofs.Grid.{cell-below}
-use Rattle.torus.proofs.Ring.{next-below}
+use Rattle.torus.proofs.Axis.{next-below}
 use Rattle.routing.proofs.push_east.Statement.{statement}
 use Rattle.routing.proofs.push_east.Tie as tie
 

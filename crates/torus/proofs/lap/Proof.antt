@@ -1,7 +1,7 @@
 -- `lap`: the offset, or the size where that is 0.
 use borrow.Author.Needs.{needs}
 use borrow.Author.Tests.{eq-eqb, ne-eqb}
-use Rattle.torus.specs.Ring.{lap}
+use Rattle.torus.specs.Axis.{lap}
 use Rattle.torus.proofs.lap.Statement.{statement}
 use Rattle.torus.proofs.lap.Tie as tie
 

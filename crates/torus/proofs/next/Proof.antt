@@ -1,6 +1,6 @@
 -- `next`: the definition's own test.
 use Rattle.laws.proofs.Cases.{cases}
-use Rattle.torus.specs.Ring.{next}
+use Rattle.torus.specs.Axis.{next}
 use Rattle.torus.proofs.next.Statement.{statement}
 use Rattle.torus.proofs.next.Tie as tie
 

@@ -1,7 +1,7 @@
 -- `offset`: either way round is the offset, by the two cases of its law.
 use borrow.Author.Needs.{needs}
 use native.Mathlib.Omega.{arith}
-use Rattle.torus.proofs.Ring.{offset-is}
+use Rattle.torus.proofs.Axis.{offset-is}
 use mathlib.Core.Logic.{inl, inr}
 use Rattle.torus.proofs.offset.Statement.{statement}
 use Rattle.torus.proofs.offset.Tie as tie

@@ -2,7 +2,7 @@
 use borrow.Author.Needs.{needs}
 use native.Mathlib.Omega.{arith}
 use borrow.Author.Tests.{eq-eqb, ne-eqb, le-leb, lt-leb}
-use Rattle.torus.proofs.Ring.{offset-below}
+use Rattle.torus.proofs.Axis.{offset-below}
 use Rattle.window.specs.Conflict.{conflictSouth}
 use Rattle.window.proofs.Spread.{laps-most}
 use Rattle.window.proofs.conflict_south.Statement.{statement}

@@ -1,4 +1,4 @@
--- One row or column of the torus: `size` places in a ring (01, Torus and plan file).
+-- One row or column of the torus: `size` places, the first after the last (01, Torus and plan file).
 use mathlib.Core.Bool.{cond}
 use Prim.Native.Nat.{ℕ, _+_, _-_, _%_}
 use lib.Dec.{eqb}

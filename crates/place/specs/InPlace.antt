@@ -2,10 +2,10 @@
 use mathlib.Core.Bool.{Bool, cond, _&&_}
 use Prim.Native.Nat.{ℕ, _+_, _-_, _*_}
 use lib.Dec.{leb, eqb}
-use Rattle.torus.specs.Ring.{offset, lap}
+use Rattle.torus.specs.Axis.{offset, lap}
 use Rattle.flow.specs.declared.Flow.{Flow}
 use Rattle.flow.specs.Offsets.{ΔX, ΔY}
-use Rattle.book.specs.Line.{Place, W, N}
+use Rattle.place.specs.Place.{Place, W, N}
 
 -- r = (row − ys) mod Sy
 abbrev pub rowsDone : ℕ → Flow → ℕ → ℕ

@@ -1,4 +1,4 @@
--- Laws of offsets and neighbours for every size and all places below it. Rests on specs/Ring; nothing above opens that.
+-- Laws of offsets and neighbours for every size and all places below it. Rests on specs/Axis; nothing above opens that.
 use mathlib.Core.Path.{_≡_, sym}
 use mathlib.Core.Logic.{_⊎_, inl, inr, _≢_}
 use Prim.Native.Nat.{ℕ, _+_, _-_, _≤_, _<_}
@@ -6,7 +6,7 @@ use native.Mathlib.Nat.{mod-eq-of-lt, mod-lt, add-mod-right}
 use native.Mathlib.Decide.{decLe, ℕ-discrete}
 use native.Mathlib.Omega.{arith}
 use borrow.Author.Tests.{eq-eqb, ne-eqb}
-use Rattle.torus.specs.Ring.{offset, next, lap, previous}
+use Rattle.torus.specs.Axis.{offset, next, lap, previous}
 
 -- `to` lies at or after `from`, or the way goes round the end once
 pub offset-cases : (size from to : ℕ) → from < size → to < size
