@@ -3,6 +3,7 @@ use mathlib.Core.List.{List, [], _∷_, _++_, map}
 use mathlib.Core.Path.{refl}
 use Rattle.laws.specs.Bounded as Bounded
 use Rattle.torus.specs.Axis as Axis
+use Rattle.flow.specs.Limits as Limits
 use Rattle.bucket.specs.Regulator as Regulator
 use Rattle.window.specs.Cases as Window
 use Rattle.window.proofs.Cases as Windows
@@ -16,7 +17,7 @@ joined [] cs w h = h
 joined (c ∷ ws) cs w h = (w .0, joined ws cs (w .1) h)
 
 on-cycle : AllHold onCycle
-unfolding Bounded.tabulate Bounded.anyBelow Axis.offset Axis.next Regulator.afterCount Regulator.afterCycle westTurns sent ready enters lowest deliveries refusal feed
+unfolding Bounded.tabulate Bounded.anyBelow Axis.offset Axis.next Regulator.afterCount Regulator.afterCycle westTurns sent ready enters lowest deliveries refusal feed Limits.offerNumber Limits.stepNumber
 on-cycle = ((refl, refl), ((refl, refl), ((refl, refl), ((refl, refl), (refl, (refl, (refl, tt)))))))
 
 pub starred-hold : AllHold starred

@@ -19,8 +19,9 @@ use Rattle.window.specs.Window.{interference}
 use Rattle.book.specs.Line.{Line, isWaiting}
 use Rattle.book.specs.Book.{Book, ofFlow, waitsFor, waitingOf, enteredOf, start, offered, offeredLine}
 use Rattle.book.specs.Cycle.{enters, move, stepped, Delivery}
-use Rattle.flow.specs.Limits.{roomFor, lastClock, mostWaiting}
-use Rattle.book.specs.Calls.{Call, offer, step, refused, refusal, Fed, accepted, feed, runFrom, run}
+use Rattle.flow.specs.Limits.{roomFor, lastClock, mostWaiting, offerNumber, stepNumber}
+use Rattle.plan.specs.declared.Answer.the-variants.{Refused}
+use Rattle.book.specs.Calls.{Call, offer, step, refusal, Fed, accepted, feed, runFrom, run}
 use Rattle.book.proofs.Moves.{turn, waited}
 use Rattle.book.proofs.Queue.{entered-step, entered-offer}
 use Rattle.book.proofs.Spans.{Lawful, lawful-start, lawful-offer, lawful-step}
@@ -39,10 +40,10 @@ pub record Kept (p : Plan) (b : Book) : Type 0 where
 
 -- a call is refused, or it is an offer to a flow of the plan with room in its queue, or a step before the last clock
 pub feed-cases : (p : Plan) (b : Book) (Q : Fed → Type 0)
-    → ((n : ℕ) → Q (record { book = b; reply = refused n 0; delivered = [] }))
+    → ((n : ℕ) → Q (record { book = b; reply = Refused n 0; delivered = [] }))
     → ((f : ℕ) → f < length (p .flows) → waitingOf b f < mostWaiting → Q (accepted p b (offer f)))
     → ((room : ℕ) → b .clock ≢ lastClock → Q (accepted p b (step room))) → (c : Call) → Q (feed p b c)
-unfolding feed refusal
+unfolding feed refusal offerNumber stepNumber
 feed-cases p b Q refuses offers steps (offer f) =
     elim (test (leb (length (p .flows)) f)) [
       | inl t ↦ rw t (refuses 12)

@@ -1,11 +1,11 @@
 -- The calls that the packet book is fed, its answers, and a list of calls from the start (01, The packet book; When a call says no).
-use mathlib.Core.Bool.{cond}
 use mathlib.Core.List.{List, [], _∷_, _++_}
 use Prim.Native.Nat.{ℕ, zero, suc}
-use lib.Dec.{ltb, leb, eqb}
 use lib.ListN.{length}
 use Rattle.flow.specs.Plan.{Plan}
-use Rattle.flow.specs.Limits.{roomFor, lastClock, mostWaiting}
+use Rattle.flow.specs.Limits.{offerNumber, stepNumber}
+use Rattle.plan.specs.declared.Answer.{Answer}
+use Rattle.plan.specs.declared.Answer.the-variants.{Done, Refused}
 use Rattle.book.specs.Book.{Book, start, offered, waitingOf}
 use Rattle.book.specs.Cycle.{stepped, Delivery, deliveries}
 
@@ -14,30 +14,26 @@ pub data Call : Type 0 where
   offer : (flow : ℕ) → Call
   step : (room : ℕ) → Call
 
-pub data Reply : Type 0 where
-  done : ℕ → Reply
-  refused : (number place : ℕ) → Reply
-
 -- the number of the table, judged by the plan and the book's clock and lines; 0 for a call that isn't refused
 unfoldable pub refusal : Plan → Book → Call → ℕ
-refusal p b (offer f) = cond (leb (length (p .flows)) f) 12 (cond (leb mostWaiting (waitingOf b f)) 13 0)
-refusal p b (step room) = cond (ltb room (roomFor p)) 10 (cond (eqb (b .clock) lastClock) 11 0)
+refusal p b (offer f) = offerNumber p f (waitingOf b f)
+refusal p b (step room) = stepNumber p room (b .clock)
 
 -- the book after a call, its answer and what it delivers
 pub record Fed : Type 0 where
   pub book : Book
-  pub reply : Reply
+  pub reply : Answer
   pub delivered : List Delivery
 
 -- a call that isn't refused
 abbrev pub accepted : Plan → Book → Call → Fed
-accepted p b (offer f) = record { book = offered b f; reply = done 0; delivered = [] }
-accepted p b (step room) = record { book = stepped p b; reply = done (length (deliveries p b)); delivered = deliveries p b }
+accepted p b (offer f) = record { book = offered b f; reply = Done 0; delivered = [] }
+accepted p b (step room) = record { book = stepped p b; reply = Done (length (deliveries p b)); delivered = deliveries p b }
 
 -- a call that the table refuses gets that number and place 0 and changes nothing
 abbrev pub judged : Plan → Book → Call → (number : ℕ) → Fed
 judged p b c zero = accepted p b c
-judged p b c (suc n) = record { book = b; reply = refused (suc n) 0; delivered = [] }
+judged p b c (suc n) = record { book = b; reply = Refused (suc n) 0; delivered = [] }
 
 unfoldable pub feed : Plan → Book → Call → Fed
 feed p b c = judged p b c (refusal p b c)
@@ -45,7 +41,7 @@ feed p b c = judged p b c (refusal p b c)
 -- the book after a list of calls, each call's answer, and all that was delivered, in order
 pub record Run : Type 0 where
   pub book : Book
-  pub replies : List Reply
+  pub replies : List Answer
   pub delivered : List Delivery
 
 abbrev pub runFrom : Plan → Book → List Call → Run

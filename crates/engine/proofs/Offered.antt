@@ -1,12 +1,10 @@
 -- A tally with one more waiting, written over its flow's, leaves the words of the state after the offer. Rests on Stored.
-use mathlib.Core.Bool.{Bool, true, false, cond}
 use mathlib.Core.List.{List}
 use mathlib.Core.Logic.{inl, inr}
-use mathlib.Core.Path.{_≡_, refl, ap, _∙_}
+use mathlib.Core.Path.{_≡_, _∙_}
 use Prim.Native.Nat.{ℕ, _+_, _<_}
 use native.Mathlib.Decide.{ℕ-discrete}
 use native.Mathlib.Omega.{arith}
-use lib.Dec.{leb}
 use lib.ListN.{length}
 use lib.Seq.{length-sets, getD-set-same, getD-set-other}
 use Rattle.laws.proofs.Stands.{Stands, stands-other, drop-sets}
@@ -17,16 +15,12 @@ use Rattle.state.specs.State.{State, tallyAt, cellAt, freshTally}
 use Rattle.state.specs.Words.{headerWords, tallyWords, flowWords, cellWords, stateWords}
 use Rattle.state.specs.Read.{countIn, stateOf}
 use Rattle.state.specs.Forms.{sizeIn, stateNumber}
-use Rattle.plan.specs.declared.Answer.the-variants.{Done}
-use Rattle.flow.specs.Limits.{mostWaiting}
-use Rattle.state.specs.Outcome.{Outcome, outcome, refused, unless, over}
+use Rattle.state.specs.Outcome.{over}
 use Rattle.state.proofs.Forms.{StateFacts, state-facts}
 use Rattle.state.proofs.Words.{header-stands, flow-stands, cell-stands, length-words, words-stand}
 use Rattle.state.proofs.View.{view-size, view-sized}
 use Rattle.state.proofs.Over.{over-is}
 use Rattle.cycle.specs.Offer.{offerState}
-use Rattle.cycle.specs.Calls.{offerOn}
-use Rattle.engine.specs.Next.{offerNumber}
 use Rattle.engine.proofs.Stored.{counted, words-part, numbers-stand, stored, stored-flow, stored-other}
 
 module _ (w : List ℕ) (forms : stateNumber w ≡ 0) (f : ℕ) (below : f < countIn w) where
@@ -82,18 +76,3 @@ module _ (w : List ℕ) (forms : stateNumber w ≡ 0) (f : ℕ) (below : f < cou
       over-is (stateWords (offerState s f)) w after
       (words-stand (offerState s f) after (rw (← (length-words (offerState s f)), length-sets) (omega arith)) first each cells)
       (drop-sets w (flowPlace f + numberSize) (tallyWords more) (length (stateWords (offerState s f))) (omega arith))
-
--- an offer by its two numbers
-pub offer-unless : (w : List ℕ) (f : ℕ)
-    → offerOn w f
-    ≡ unless (stateNumber w) w (unless (offerNumber w f) w (outcome (Done 0) (over (stateWords (offerState (stateOf w) f)) w)))
-unfolding offerOn offerNumber unless
-offer-unless w f = ap (unless (stateNumber w) w) (by (leb (countIn w) f) (leb mostWaiting ((tallyAt (stateOf w) f) .waiting)))
-  where
-    accepted : Outcome
-    accepted = outcome (Done 0) (over (stateWords (offerState (stateOf w) f)) w)
-
-    by : (a b : Bool) → cond a (refused 12 w) (cond b (refused 13 w) accepted) ≡ unless (cond a 12 (cond b 13 0)) w accepted
-    by true b = refl
-    by false true = refl
-    by false false = refl

@@ -8,13 +8,15 @@ ghost use lib.Seq.{sets};
 ghost use Rattle.state.specs.Words.{stateWords};
 ghost use Rattle.state.specs.Read.{sxIn, syIn, countIn, clockIn, stateOf};
 ghost use Rattle.state.specs.Forms.{stateNumber};
-ghost use Rattle.state.specs.Outcome.{outcome, over};
+ghost use Rattle.state.specs.Outcome.{outcome, lent, over};
+ghost use Rattle.state.specs.State.{tallyAt};
+ghost use Rattle.flow.specs.Limits.{offerNumber, stepNumber};
 ghost use Rattle.state.proofs.Forms.{StateFacts};
 ghost use Rattle.entry.specs.Entrants.{Entrants};
 ghost use Rattle.routing.specs.Walk.{registersIn, pushedAll};
-ghost use Rattle.engine.specs.Next.{nextWords, offerNumber};
+ghost use Rattle.engine.specs.Next.{nextWords};
 ghost use Rattle.cycle.specs.Step.{exits, stepState, stepDelivers};
-ghost use Rattle.cycle.specs.Calls.{exitCount, offerOn, stepNumber, stepOutcome, stepOn};
+ghost use Rattle.cycle.specs.Calls.{exitCount, offerOn, stepOn};
 ghost use Rattle.cycle.specs.Offer.{offerState};
 
 // Copies n words to a place.
@@ -138,7 +140,7 @@ fn wait_more(state: &mut [u32], f: u32)
 // The refusal of an offer after the state's own, or 0.
 fn offer_number(state: &[u32], f: u32) -> u32
     requires { ⌜ StateFacts (now state) ⌝ }
-    ensures { λ r. ⌜ r ≡ offerNumber (now (state .entry)) f ⌝ }
+    ensures { λ r. ⌜ r ≡ offerNumber ((stateOf (now (state .entry))) .plan) f ((tallyAt (stateOf (now (state .entry))) f) .waiting) ⌝ }
 {
     if state[2] <= f {
         return 12;
@@ -172,7 +174,7 @@ pub fn offer(state: &mut [u32], flow: u32) -> Answer
 // The refusal of a step after the state's own, or 0.
 fn step_number(state: &[u32], delivery: &[u32]) -> u32
     requires { ⌜ StateFacts (now state) ⌝ }
-    ensures { λ r. ⌜ r ≡ stepNumber (now (state .entry)) (now (delivery .entry)) ⌝ }
+    ensures { λ r. ⌜ r ≡ stepNumber ((stateOf (now (state .entry))) .plan) (length (now (delivery .entry))) ((stateOf (now (state .entry))) .clock) ⌝ }
 {
     let routers = (state[0] * state[1]) as usize;
     if delivery.len() < 5 * routers {
@@ -186,7 +188,7 @@ fn step_number(state: &[u32], delivery: &[u32]) -> u32
 
 // One cycle of the torus: the count of exits, or the refusal.
 pub fn step(state: &mut [u32], delivery: &mut [u32]) -> Answer
-    ensures { λ r. ⌜ stepOutcome r (now (state .exit)) (now (delivery .exit)) ≡ stepOn (now (state .entry)) (now (delivery .entry)) ⌝ }
+    ensures { λ r. ⌜ outcome r (lent (now (state .exit)) (now (delivery .exit))) ≡ stepOn (now (state .entry)) (now (delivery .entry)) ⌝ }
 {
     let number = forms::state_number(state);
     if number != 0 {

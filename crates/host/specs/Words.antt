@@ -6,8 +6,7 @@ use Rattle.plan.specs.declared.Answer.{Answer}
 use Rattle.plan.specs.declared.Answer.the-variants.{Done, Refused}
 use Rattle.plan.specs.Refusals.{orElse, planAnswer}
 use Rattle.plan.specs.Notes.{notesOf}
-use Rattle.state.specs.Outcome.{Outcome}
-use Rattle.cycle.specs.Calls.{StepOutcome}
+use Rattle.state.specs.Outcome.{Outcome, outcome}
 
 -- T, or 65,536 + the refusal number
 abbrev pub windowWord : Answer → ℕ
@@ -23,25 +22,6 @@ answerWord (Refused number place) = number * 4294967296 + place
 unfoldable pub notesAnswer : List ℕ → Answer
 notesAnswer file = orElse (planAnswer file) (Done (length (notesOf file)))
 
--- a call's number and the memory lent to it, afterwards
-pub record Said : Type 0 where
-  pub word : ℕ
-  pub memory : List ℕ
-
-abbrev pub said : ℕ → List ℕ → Said
-said word memory = record { word = word; memory = memory }
-
-abbrev pub saidOf : Outcome → Said
-saidOf o = said (answerWord (o .answer)) (o .memory)
-
--- a step's number, and the state and delivery memory afterwards
-pub record SaidStep : Type 0 where
-  pub word : ℕ
-  pub memory : List ℕ
-  pub delivery : List ℕ
-
-abbrev pub saidStep : ℕ → (memory delivery : List ℕ) → SaidStep
-saidStep word memory delivery = record { word = word; memory = memory; delivery = delivery }
-
-abbrev pub saidOfStep : StepOutcome → SaidStep
-saidOfStep o = saidStep (answerWord (o .answer)) (o .memory) (o .delivery)
+-- a call's outcome with its answer as that number
+abbrev pub inWords : {M : Type 0} → Outcome Answer M → Outcome ℕ M
+inWords o = outcome (answerWord (o .answer)) (o .memory)

@@ -2,7 +2,8 @@
 use plan::Answer;
 ghost use mathlib.Core.Path.{_≡_};
 ghost use Rattle.bounds.specs.Calls.{windowAnswer, flightAnswer, NumberMost};
-ghost use Rattle.host.specs.Words.{windowWord, answerWord, notesAnswer, said, saidOf, saidStep, saidOfStep};
+ghost use Rattle.host.specs.Words.{windowWord, answerWord, notesAnswer, inWords};
+ghost use Rattle.state.specs.Outcome.{outcome, lent};
 ghost use Rattle.state.specs.Calls.{resetOn, writeOn};
 ghost use Rattle.cycle.specs.Calls.{offerOn, stepOn};
 
@@ -57,7 +58,7 @@ pub extern "C" fn hrt_notes(plan: &[u8]) -> u64
 // A state from a plan file.
 #[no_mangle]
 pub extern "C" fn hrt_reset(plan: &[u8], state: &mut [u32]) -> u64
-    ensures { λ r. ⌜ said r (now (state .exit)) ≡ saidOf (resetOn (now (plan .entry)) (now (state .entry))) ⌝ }
+    ensures { λ r. ⌜ outcome r (now (state .exit)) ≡ inWords (resetOn (now (plan .entry)) (now (state .entry))) ⌝ }
 {
     answer_word(reset::reset(plan, state))
 }
@@ -65,7 +66,7 @@ pub extern "C" fn hrt_reset(plan: &[u8], state: &mut [u32]) -> u64
 // The plan file of a state with lent notes.
 #[no_mangle]
 pub extern "C" fn hrt_write(state: &[u32], notes: &[u8], target: &mut [u8]) -> u64
-    ensures { λ r. ⌜ said r (now (target .exit)) ≡ saidOf (writeOn (now (state .entry)) (now (notes .entry)) (now (target .entry))) ⌝ }
+    ensures { λ r. ⌜ outcome r (now (target .exit)) ≡ inWords (writeOn (now (state .entry)) (now (notes .entry)) (now (target .entry))) ⌝ }
 {
     answer_word(writing::write(state, notes, target))
 }
@@ -73,7 +74,7 @@ pub extern "C" fn hrt_write(state: &[u32], notes: &[u8], target: &mut [u8]) -> u
 // One packet of a flow.
 #[no_mangle]
 pub extern "C" fn hrt_offer(state: &mut [u32], flow: u32) -> u64
-    ensures { λ r. ⌜ said r (now (state .exit)) ≡ saidOf (offerOn (now (state .entry)) flow) ⌝ }
+    ensures { λ r. ⌜ outcome r (now (state .exit)) ≡ inWords (offerOn (now (state .entry)) flow) ⌝ }
 {
     answer_word(engine::offer(state, flow))
 }
@@ -81,7 +82,7 @@ pub extern "C" fn hrt_offer(state: &mut [u32], flow: u32) -> u64
 // One cycle, and its exits.
 #[no_mangle]
 pub extern "C" fn hrt_step(state: &mut [u32], delivery: &mut [u32]) -> u64
-    ensures { λ r. ⌜ saidStep r (now (state .exit)) (now (delivery .exit)) ≡ saidOfStep (stepOn (now (state .entry)) (now (delivery .entry))) ⌝ }
+    ensures { λ r. ⌜ outcome r (lent (now (state .exit)) (now (delivery .exit))) ≡ inWords (stepOn (now (state .entry)) (now (delivery .entry))) ⌝ }
 {
     answer_word(engine::step(state, delivery))
 }

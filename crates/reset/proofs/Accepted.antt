@@ -22,10 +22,9 @@ use Rattle.state.specs.Words.{stateWords}
 use Rattle.state.specs.Read.{planIn}
 use Rattle.state.specs.Forms.{tallyFits, stateNumber}
 use Rattle.state.specs.Outcome.{Outcome, unlessRefused, over}
-use Rattle.state.specs.Calls.{planSize, resetOn}
+use Rattle.state.specs.Calls.{planSize, resetOn, freshOn}
 use Rattle.state.proofs.Read.{plan-read}
 use Rattle.state.proofs.Formed.{StateOk, registerOk, words-form}
-use Rattle.reset.specs.Fresh.{freshOn}
 
 module _ (p : Plan) (ok : PlanOk p) where
   fresh-tally : (f : ℕ) → f < length (p .flows) → tallyAt (resetState p) f ≡ freshTally ((flowAt p f) .burst)
@@ -59,7 +58,7 @@ pub record Accepted (file memory : List ℕ) : Type 0 where
 never : (n place v : ℕ) → Refused n place ≡ Done v → ⊥
 never n place v e = let z : _≡_ {A = ℕ} 0 1 = cc in omega arith
 
-done-parts : (a : Answer) (memory : List ℕ) (o : Outcome) → (unlessRefused a memory o) .answer ≡ Done 0
+done-parts : (a : Answer) (memory : List ℕ) (o : Outcome Answer (List ℕ)) → (unlessRefused a memory o) .answer ≡ Done 0
     → (v : ℕ) × (a ≡ Done v) × (o .answer ≡ Done 0)
 unfolding unlessRefused
 done-parts (Done v) memory o e = (v, refl, e)

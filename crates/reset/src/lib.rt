@@ -16,8 +16,8 @@ ghost use Rattle.state.specs.Layout.{headerSize, flowSize, routerSize, flowPlac
 ghost use Rattle.state.specs.State.{emptyCell};
 ghost use Rattle.state.specs.Words.{cellWords};
 ghost use Rattle.state.specs.Outcome.{outcome};
-ghost use Rattle.state.specs.Calls.{resetOn};
-ghost use Rattle.reset.specs.Fresh.{freshWords, freshOn};
+ghost use Rattle.state.specs.Calls.{freshOn, resetOn};
+ghost use Rattle.reset.specs.Fresh.{freshWords};
 
 // Writes Sx, Sy, F, clock 0 and the four zeros.
 fn put_header(w: &mut [u32], t: Trailer)

@@ -9,18 +9,17 @@ use lib.Dec.{ltb, leb, eqb}
 use lib.ListN.{length}
 use Rattle.laws.proofs.Cases.{test}
 use Rattle.flow.specs.Plan.{Plan}
-use Rattle.plan.specs.declared.Answer.the-variants.{Refused}
 use Rattle.book.specs.Book.{Book, waitingOf}
 use Rattle.book.specs.Cycle.{wordsOf}
-use Rattle.flow.specs.Limits.{roomFor, lastClock, mostWaiting}
+use Rattle.flow.specs.Limits.{roomFor, lastClock, mostWaiting, offerNumber, stepNumber}
 use Rattle.book.specs.Calls.{Fed, feed, refusal}
 use Rattle.book.specs.Calls as BookCalls
 use Rattle.book.proofs.Kept.{Kept}
-use Rattle.state.specs.Outcome.{outcome, refused, unless, over}
+use Rattle.state.specs.Outcome.{outcome, lent, refused, unless, over}
 use Rattle.state.specs.Forms.{stateNumber}
-use Rattle.state.specs.Calls.{writeOn}
-use Rattle.cycle.specs.Calls.{stepOutcome, offerOn, unlessStep, stepNumber, stepOn}
-use Rattle.run.specs.List.{answerOf, written}
+use Rattle.plan.specs.Written.{planBytes}
+use Rattle.state.specs.Calls.{bytesOn, writeOn}
+use Rattle.cycle.specs.Calls.{offerOn, stepOn}
 use Rattle.run.proofs.View.{tally-at}
 use Rattle.run.proofs.Step.{step-follows}
 use Rattle.run.proofs.Delivery.{delivers-follow, count-follows}
@@ -32,8 +31,8 @@ module _ (p : Plan) (b : Book) (k : Kept p b) (words : List ℕ) where
   w = image p b words
 
   pub offer-on : (f : ℕ) → let now : Fed = feed p b (BookCalls.offer f) in
-      offerOn w f ≡ outcome (answerOf (now .reply)) (image p (now .book) words)
-  unfolding offerOn unless feed refusal
+      offerOn w f ≡ outcome (now .reply) (image p (now .book) words)
+  unfolding offerOn unless offerNumber feed refusal
   offer-on f =
       rw (number p b words k, count-is p b words, view p b words)
       (elim (test (leb (length (p .flows)) f)) [
@@ -48,8 +47,8 @@ module _ (p : Plan) (b : Book) (k : Kept p b) (words : List ℕ) where
       ])
 
   pub step-on : (delivery : List ℕ) → let now : Fed = feed p b (BookCalls.step (length delivery)) in
-      stepOn w delivery ≡ stepOutcome (answerOf (now .reply)) (image p (now .book) words) (over (wordsOf (now .delivered)) delivery)
-  unfolding stepOn unlessStep stepNumber feed refusal
+      stepOn w delivery ≡ outcome (now .reply) (lent (image p (now .book) words) (over (wordsOf (now .delivered)) delivery))
+  unfolding stepOn unless stepNumber feed refusal
   step-on delivery =
       rw (number p b words k, clock-is p b words, plan-is p b words, view p b words)
       (elim (test (ltb (length delivery) (roomFor p))) [
@@ -60,20 +59,20 @@ module _ (p : Plan) (b : Book) (k : Kept p b) (words : List ℕ) where
         ]
       ])
 
-  pub write-on : (notes target : List ℕ) → writeOn w notes target ≡ written p notes target
+  pub write-on : (notes target : List ℕ) → writeOn w notes target ≡ bytesOn (planBytes notes p) target
   unfolding writeOn unless
   write-on notes target = rw (number p b words k, plan-is p b words)
 
 -- a call lent too little of the state memory
-module _ (lent : List ℕ) (few : stateNumber lent ≡ 8) where
-  pub short-offer : (f : ℕ) → offerOn lent f ≡ refused 8 lent
+module _ (words : List ℕ) (few : stateNumber words ≡ 8) where
+  pub short-offer : (f : ℕ) → offerOn words f ≡ refused 8 words
   unfolding offerOn unless
   short-offer f = rw few
 
-  pub short-step : (delivery : List ℕ) → stepOn lent delivery ≡ stepOutcome (Refused 8 0) lent delivery
-  unfolding stepOn unlessStep
+  pub short-step : (delivery : List ℕ) → stepOn words delivery ≡ refused 8 (lent words delivery)
+  unfolding stepOn unless
   short-step delivery = rw few
 
-  pub short-write : (notes target : List ℕ) → writeOn lent notes target ≡ refused 8 target
+  pub short-write : (notes target : List ℕ) → writeOn words notes target ≡ refused 8 target
   unfolding writeOn unless
   short-write notes target = rw few

@@ -1,26 +1,24 @@
 -- A whole list of calls on one state, after an accepted reset, and what it comes to: every answer, every word delivered and
 -- every word of the state are the packet book's (01, The packet book).
-use mathlib.Core.Bool.{cond}
 use mathlib.Core.List.{List, [], _∷_, _++_}
 use mathlib.Core.Path.{_≡_}
 use Prim.Native.Nat.{ℕ, _*_, _<_}
-use lib.Dec.{ltb}
 use lib.ListN.{length, getD, take, drop}
 use Rattle.flow.specs.Plan.{Plan}
 use Rattle.plan.specs.declared.Answer.{Answer}
 use Rattle.plan.specs.declared.Answer.the-variants.{Done, Refused}
-use Rattle.plan.specs.Layout.{mostFile, planOf}
+use Rattle.plan.specs.Layout.{planOf}
 use Rattle.plan.specs.Written.{planBytes}
 use Rattle.book.specs.Book.{Book, start}
 use Rattle.book.specs.Cycle.{wordsOf}
-use Rattle.book.specs.Calls.{Reply, done, Fed, feed, Run, run}
+use Rattle.book.specs.Calls.{Fed, feed, Run, run}
 use Rattle.book.specs.Calls as BookCalls
 use Rattle.book.specs.Promises.{Promises}
 use Rattle.state.specs.Words.{stateWords}
 use Rattle.state.specs.Forms.{stateNumber}
-use Rattle.state.specs.Outcome.{Outcome, outcome, refused, over}
-use Rattle.state.specs.Calls.{planSize, resetOn, writeOn}
-use Rattle.cycle.specs.Calls.{StepOutcome, offerOn, stepOn}
+use Rattle.state.specs.Outcome.{Outcome, outcome, Lent, lent, refused, over}
+use Rattle.state.specs.Calls.{planSize, resetOn, bytesOn, writeOn}
+use Rattle.cycle.specs.Calls.{offerOn, stepOn}
 use Rattle.run.specs.View.{bookState}
 
 -- a call, with what is lent to it beside the state memory; a reset is one that is refused with that number and place
@@ -35,35 +33,27 @@ pub data Entry : Type 0 where
   whole : Call → Entry
   first : (room : ℕ) → Call → Entry
 
--- the answer, the lent words of the state afterwards, and the delivery memory, or the target, afterwards
-pub record Result : Type 0 where
-  pub answer : Answer
-  pub state : List ℕ
-  pub other : List ℕ
-
 -- what a call does to the words lent to it, by the definitions to which the contracts of the code set answer and memory equal
-abbrev pub called : Call → (lent : List ℕ) → Result
-called (offer flow) lent =
-    let o : Outcome = offerOn lent flow in
-    record { answer = o .answer; state = o .memory; other = [] }
-called (step delivery) lent =
-    let o : StepOutcome = stepOn lent delivery in
-    record { answer = o .answer; state = o .memory; other = o .delivery }
-called (write notes target) lent =
-    let o : Outcome = writeOn lent notes target in
-    record { answer = o .answer; state = lent; other = o .memory }
-called (reset file number place) lent =
-    let o : Outcome = resetOn file lent in
-    record { answer = o .answer; state = o .memory; other = [] }
+abbrev pub called : Call → (words : List ℕ) → Outcome Answer Lent
+called (offer flow) words =
+    let o : Outcome Answer (List ℕ) = offerOn words flow in
+    outcome (o .answer) (lent (o .memory) [])
+called (step delivery) words = stepOn words delivery
+called (write notes target) words =
+    let o : Outcome Answer (List ℕ) = writeOn words notes target in
+    outcome (o .answer) (lent words (o .memory))
+called (reset file number place) words =
+    let o : Outcome Answer (List ℕ) = resetOn file words in
+    outcome (o .answer) (lent (o .memory) [])
 
-abbrev pub result : (memory : List ℕ) → Entry → Result
+abbrev pub result : (memory : List ℕ) → Entry → Outcome Answer Lent
 result memory (whole c) = called c memory
 result memory (first room c) = called c (take room memory)
 
 -- the state memory after a call; what wasn't lent stays
 abbrev pub after : (memory : List ℕ) → Entry → List ℕ
-after memory (whole c) = (called c memory) .state
-after memory (first room c) = (called c (take room memory)) .state ++ drop room memory
+after memory (whole c) = (called c memory) .memory .state
+after memory (first room c) = (called c (take room memory)) .memory .state ++ drop room memory
 
 -- what may come in a list: offers and steps, and unfed writing, refused resets and calls lent too little of the state memory
 abbrev pub MayCome : Plan → (memory : List ℕ) → Entry → Type 0
@@ -87,18 +77,18 @@ memoryAfter memory [] = memory
 memoryAfter memory (e ∷ es) = memoryAfter (after memory e) es
 
 -- each call's answer, and what was lent to it beside the state memory, afterwards
-abbrev pub outcomes : (memory : List ℕ) → List Entry → List Outcome
+abbrev pub outcomes : (memory : List ℕ) → List Entry → List (Outcome Answer (List ℕ))
 outcomes memory [] = []
-outcomes memory (e ∷ es) = outcome ((result memory e) .answer) ((result memory e) .other) ∷ outcomes (after memory e) es
+outcomes memory (e ∷ es) = outcome ((result memory e) .answer) ((result memory e) .memory .other) ∷ outcomes (after memory e) es
 
 -- five words for each exit that a step answers
 abbrev pub wordCount : Answer → ℕ
 wordCount (Done count) = 5 * count
 wordCount (Refused number place) = 0
 
-abbrev pub deliveredBy : Entry → Result → List ℕ
+abbrev pub deliveredBy : Entry → Outcome Answer Lent → List ℕ
 deliveredBy (whole (offer flow)) r = []
-deliveredBy (whole (step delivery)) r = take (wordCount (r .answer)) (r .other)
+deliveredBy (whole (step delivery)) r = take (wordCount (r .answer)) (r .memory .other)
 deliveredBy (whole (write notes target)) r = []
 deliveredBy (whole (reset file number place)) r = []
 deliveredBy (first room c) r = []
@@ -117,35 +107,23 @@ fed (whole (write notes target) ∷ es) = fed es
 fed (whole (reset file number place) ∷ es) = fed es
 fed (first room c ∷ es) = fed es
 
-abbrev pub answerOf : Reply → Answer
-answerOf (done value) = Done value
-answerOf (BookCalls.refused number place) = Refused number place
-
--- writing the plan with lent notes: 1, 15; otherwise the file's bytes, and their number
-abbrev pub written : Plan → (notes target : List ℕ) → Outcome
-written p notes target =
-    let bytes = planBytes notes p in
-    cond (ltb mostFile (length bytes)) (refused 1 target)
-    (cond (ltb (length target) (length bytes)) (refused 15 target)
-    (outcome (Done (length bytes)) (over bytes target)))
-
 -- 8 for a call lent too little, with all as it was
-abbrev pub tooLittle : Call → Outcome
+abbrev pub tooLittle : Call → Outcome Answer (List ℕ)
 tooLittle (offer flow) = refused 8 []
 tooLittle (step delivery) = refused 8 delivery
 tooLittle (write notes target) = refused 8 target
 tooLittle (reset file number place) = outcome (Refused number place) []
 
 -- what the book has for each call: its answer, and a step's words in front of the delivery memory, whose rest is as lent
-abbrev pub expected : Plan → Book → List Entry → List Outcome
+abbrev pub expected : Plan → Book → List Entry → List (Outcome Answer (List ℕ))
 expected p b [] = []
 expected p b (whole (offer flow) ∷ es) =
     let now : Fed = feed p b (BookCalls.offer flow) in
-    outcome (answerOf (now .reply)) [] ∷ expected p (now .book) es
+    outcome (now .reply) [] ∷ expected p (now .book) es
 expected p b (whole (step delivery) ∷ es) =
     let now : Fed = feed p b (BookCalls.step (length delivery)) in
-    outcome (answerOf (now .reply)) (over (wordsOf (now .delivered)) delivery) ∷ expected p (now .book) es
-expected p b (whole (write notes target) ∷ es) = written p notes target ∷ expected p b es
+    outcome (now .reply) (over (wordsOf (now .delivered)) delivery) ∷ expected p (now .book) es
+expected p b (whole (write notes target) ∷ es) = bytesOn (planBytes notes p) target ∷ expected p b es
 expected p b (whole (reset file number place) ∷ es) = outcome (Refused number place) [] ∷ expected p b es
 expected p b (first room c ∷ es) = tooLittle c ∷ expected p b es
 

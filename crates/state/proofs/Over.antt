@@ -7,6 +7,7 @@ use native.Mathlib.Omega.{arith}
 use lib.ListN.{length, drop, length-append, length-drop}
 use lib.Seq.{sets, sets-eq}
 use Rattle.laws.proofs.Stands.{Stands, stands-start}
+use Rattle.plan.specs.declared.Answer.{Answer}
 use Rattle.state.specs.Outcome.{Outcome, refused, unless, over}
 
 pub over-length : (part memory : List ℕ) → length part ≤ length memory → length (over part memory) ≡ length memory
@@ -21,11 +22,11 @@ pub over-is : (part memory after : List ℕ) → Stands 0 after 0 part → drop 
 over-is part memory after s e = rw (← e) (stands-start 0 after part s)
 
 -- no refusal, or one
-pub unless-passes : (n : ℕ) (memory : List ℕ) (o : Outcome) → n ≡ 0 → o ≡ unless n memory o
+pub unless-passes : {M : Type 0} (n : ℕ) (memory : M) (o : Outcome Answer M) → n ≡ 0 → o ≡ unless n memory o
 unfolding unless
 unless-passes n memory o e = rw e
 
-pub unless-refuses : (n : ℕ) (memory : List ℕ) (o : Outcome) → (n ≡ 0 → ⊥) → refused n memory ≡ unless n memory o
+pub unless-refuses : {M : Type 0} (n : ℕ) (memory : M) (o : Outcome Answer M) → (n ≡ 0 → ⊥) → refused n memory ≡ unless n memory o
 unfolding unless
 unless-refuses zero memory o e = absurd (e refl)
 unless-refuses (suc n) memory o e = refl

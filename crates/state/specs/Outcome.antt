@@ -5,27 +5,36 @@ use lib.ListN.{length, drop}
 use Rattle.plan.specs.declared.Answer.{Answer}
 use Rattle.plan.specs.declared.Answer.the-variants.{Done, Refused}
 
--- the answer and the lent words, or bytes, afterwards
-pub record Outcome : Type 0 where
-  pub answer : Answer
-  pub memory : List ℕ
+-- the answer, and the lent memory afterwards
+pub record Outcome (A M : Type 0) : Type 0 where
+  pub answer : A
+  pub memory : M
 
-abbrev pub outcome : Answer → List ℕ → Outcome
+abbrev pub outcome : {A M : Type 0} → A → M → Outcome A M
 outcome answer memory = record { answer = answer; memory = memory }
 
--- a refusal with place 0
-abbrev pub refused : (number : ℕ) → List ℕ → Outcome
-refused number memory = outcome (Refused number 0) memory
+-- state memory, and what is lent beside it: a step's delivery memory, or the target of writing
+pub record Lent : Type 0 where
+  pub state : List ℕ
+  pub other : List ℕ
 
--- the refusal with that number, unless it is 0
-unfoldable pub unless : (number : ℕ) → List ℕ → Outcome → Outcome
-unless zero memory accepted = accepted
-unless (suc n) memory accepted = refused (suc n) memory
+abbrev pub lent : (state other : List ℕ) → Lent
+lent state other = record { state = state; other = other }
 
--- a file's refusal with its place, unless it was accepted
-unfoldable pub unlessRefused : Answer → List ℕ → Outcome → Outcome
-unlessRefused (Done v) memory accepted = accepted
-unlessRefused (Refused number place) memory accepted = outcome (Refused number place) memory
+module _ {M : Type 0} where
+  -- a refusal with place 0
+  abbrev pub refused : (number : ℕ) → M → Outcome Answer M
+  refused number memory = outcome (Refused number 0) memory
+
+  -- the refusal with that number, unless it is 0
+  unfoldable pub unless : (number : ℕ) → M → Outcome Answer M → Outcome Answer M
+  unless zero memory accepted = accepted
+  unless (suc n) memory accepted = refused (suc n) memory
+
+  -- a file's refusal with its place, unless it was accepted
+  unfoldable pub unlessRefused : Answer → M → Outcome Answer M → Outcome Answer M
+  unlessRefused (Done v) memory accepted = accepted
+  unlessRefused (Refused number place) memory accepted = outcome (Refused number place) memory
 
 -- the memory with its leading part written anew; what lies past that part stays
 abbrev pub over : (part memory : List ℕ) → List ℕ

@@ -24,7 +24,7 @@ use Rattle.state.specs.Outcome.{outcome, over}
 use Rattle.state.proofs.Over.{over-sets}
 use Rattle.state.proofs.View.{view-count}
 use Rattle.state.proofs.Forms.{state-facts}
-use Rattle.writing.specs.Bytes.{bytesOn}
+use Rattle.state.specs.Calls.{bytesOn}
 
 pub record-length : (f : Flow) → length (recordBytes f) ≡ recordSize
 unfolding recordBytes twoBytes

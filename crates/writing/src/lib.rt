@@ -15,8 +15,7 @@ ghost use Rattle.state.specs.Layout.{flowPlace};
 ghost use Rattle.state.specs.Read.{countIn, flowIn, planIn};
 ghost use Rattle.state.specs.Forms.{stateNumber};
 ghost use Rattle.state.specs.Outcome.{outcome};
-ghost use Rattle.state.specs.Calls.{writeOn};
-ghost use Rattle.writing.specs.Bytes.{bytesOn};
+ghost use Rattle.state.specs.Calls.{bytesOn, writeOn};
 
 // The most bytes of a file in front of its trailer.
 const MOST_BODY: usize = 65524;

@@ -2,8 +2,8 @@
 use borrow.Author.Needs.{needs}
 use borrow.Author.Tests.{lt-ltb, le-ltb, eq-eqb, ne-eqb}
 use native.Mathlib.Omega.{arith}
-use Rattle.state.specs.Read.{planIn}
-use Rattle.cycle.specs.Calls.{stepNumber}
+use Rattle.state.specs.Read.{planIn, stateOf}
+use Rattle.flow.specs.Limits.{stepNumber}
 use Rattle.cycle.proofs.Facts.{cells-most}
 use Rattle.engine.proofs.step_number.Statement.{statement}
 use Rattle.engine.proofs.step_number.Tie as tie
@@ -12,15 +12,15 @@ mul-routers : tie.Need-mul-routers
 mul-routers c = omega (arith, cells-most _ (c .before .before .pre))
 
 returns : tie.Need-returns
-unfolding stepNumber planIn
+unfolding stepNumber stateOf planIn
 returns c = rw (lt-ltb _ _ (c .if1 .taken))
 
 returns-2 : tie.Need-returns-2
-unfolding stepNumber planIn
+unfolding stepNumber stateOf planIn
 returns-2 c = rw (le-ltb _ _ (c .before .before .if1 .left), eq-eqb _ _ (c .if2 .taken))
 
 returns-3 : tie.Need-returns-3
-unfolding stepNumber planIn
+unfolding stepNumber stateOf planIn
 returns-3 c = rw (le-ltb _ _ (c .before .before .if1 .left), ne-eqb _ _ (c .if2 .left))
 
 pub step-number-spec : {M : Type 1} → statement M

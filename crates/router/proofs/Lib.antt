@@ -1,0 +1,1 @@
+-- The laws of links and of the routing rule.

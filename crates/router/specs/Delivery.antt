@@ -1,0 +1,15 @@
+-- What an exit writes (01, One cycle).
+use mathlib.Core.List.{List, [], _∷_, _++_}
+use Prim.Native.Nat.{ℕ}
+
+pub record Delivery : Type 0 where
+  pub flow : ℕ
+  pub serial : ℕ
+  pub entry : ℕ
+  pub exit : ℕ
+  pub D : ℕ
+
+-- each exit writes five words: flow, serial, entry cycle, exit cycle, D
+abbrev pub wordsOf : List Delivery → List ℕ
+wordsOf [] = []
+wordsOf (d ∷ ds) = (d .flow ∷ d .serial ∷ d .entry ∷ d .exit ∷ d .D ∷ []) ++ wordsOf ds

@@ -1,2 +1,0 @@
--- Writing the bytes of a plan.
-pub mod Bytes
