@@ -34,5 +34,5 @@ returns-3 c = rw (accepted (c .before .before) .done, count (c .before), lt-ltb 
 
 pub ask-spec : {M : Type 1} → statement M
 ask-spec =
-    tie.close
-    (tie.spec (λ c κs. search needs) (λ c. search needs) (λ c. search needs) read-trailer-requires returns returns-2 returns-3)
+    tie.close (tie.spec (λ c κs. search needs) (λ c. search needs) (λ c. search needs) read-trailer-requires returns returns-2
+    returns-3)

@@ -42,4 +42,5 @@ returns c =
 
 pub find-rivals-spec : {M : Type 1} → statement M
 find-rivals-spec =
-    tie.close (tie.spec Inv-loop μ-loop flow-of-requires loop-holds meet-requires (λ c. omega arith) (λ c. omega arith) loop-again same-length returns)
+    tie.close (tie.spec Inv-loop μ-loop flow-of-requires loop-holds meet-requires (λ c. omega arith) (λ c. omega arith) loop-again
+    same-length returns)

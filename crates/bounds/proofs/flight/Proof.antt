@@ -27,5 +27,5 @@ returns-2 c = ap Done (c .flight-found .ensures) ∙ sym (known (c .before .befo
 
 pub flight-spec : {M : Type 1} → statement M
 flight-spec =
-    tie.close
-    (tie.spec (λ c κs. search needs) (λ c. search needs) (λ c. search needs) read-trailer-requires flight-found-requires returns returns-2)
+    tie.close (tie.spec (λ c κs. search needs) (λ c. search needs) (λ c. search needs) read-trailer-requires flight-found-requires
+    returns returns-2)

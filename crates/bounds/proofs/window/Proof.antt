@@ -34,15 +34,5 @@ returns-3 c =
 
 pub window-spec : {M : Type 1} → statement M
 window-spec =
-    tie.close
-    (tie.spec
-    (λ c κs. search needs)
-    (λ c. search needs)
-    (λ c. search needs)
-    read-trailer-requires
-    window-found-requires
-    (λ c. search needs)
-    (λ c. search needs)
-    returns
-    returns-2
-    returns-3)
+    tie.close (tie.spec (λ c κs. search needs) (λ c. search needs) (λ c. search needs) read-trailer-requires window-found-requires
+    (λ c. search needs) (λ c. search needs) returns returns-2 returns-3)

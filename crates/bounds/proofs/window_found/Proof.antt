@@ -12,11 +12,5 @@ window-in-requires-2 c κs =
 
 pub window-found-spec : {M : Type 1} → statement M
 window-found-spec =
-    tie.close
-    (tie.spec
-    (λ c. search needs)
-    (λ c κs. search needs)
-    (λ c. search needs)
-    (λ c. search needs)
-    window-in-requires-2
+    tie.close (tie.spec (λ c. search needs) (λ c κs. search needs) (λ c. search needs) (λ c. search needs) window-in-requires-2
     (λ c. search needs))

@@ -16,12 +16,5 @@ returns-2 c = rw (← (c .before .before .before .answer-of .ensures), c .before
 
 pub hrt-notes-spec : {M : Type 1} → statement M
 hrt-notes-spec =
-    tie.close
-    (tie.spec
-    (λ c κs. search needs)
-    (λ c. search needs)
-    (λ c κs. search needs)
-    (λ c. search needs)
-    (λ c κs. search needs)
-    returns
-    returns-2)
+    tie.close (tie.spec (λ c κs. search needs) (λ c. search needs) (λ c κs. search needs) (λ c. search needs)
+    (λ c κs. search needs) returns returns-2)

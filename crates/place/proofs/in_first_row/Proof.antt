@@ -17,5 +17,4 @@ returns-4 : tie.Need-returns-4
 returns-4 c = search (cases, ← (c .before .before .before .before .offset .ensures), ← (c .before .before .offset-x .ensures))
 
 pub in-first-row-spec : {M : Type 1} → statement M
-in-first-row-spec =
-    tie.close (tie.spec (λ c κs. search needs) returns (λ c κs. search needs) returns-2 returns-3 returns-4)
+in-first-row-spec = tie.close (tie.spec (λ c κs. search needs) returns (λ c κs. search needs) returns-2 returns-3 returns-4)

@@ -36,16 +36,6 @@ returns-4 c =
 
 pub in-later-row-spec : {M : Type 1} → statement M
 in-later-row-spec =
-    tie.close
-    (tie.spec
-    (λ c κs. search needs)
-    returns
-    returns-2
-    returns-3
-    (λ c κs. search needs)
-    (λ c. omega (arith, summands c))
-    (λ c. omega (arith, summands c))
-    (λ c. omega (arith, summands c))
-    (λ c κs. search needs)
-    (λ c. omega (arith, summands (c .before), last c))
-    returns-4)
+    tie.close (tie.spec (λ c κs. search needs) returns returns-2 returns-3 (λ c κs. search needs) (λ c. omega (arith, summands c))
+    (λ c. omega (arith, summands c)) (λ c. omega (arith, summands c)) (λ c κs. search needs)
+    (λ c. omega (arith, summands (c .before), last c)) returns-4)

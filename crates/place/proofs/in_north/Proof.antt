@@ -27,15 +27,6 @@ returns-5 c = search (cases, ← (c .before .before .before .offset-y .ensures),
 
 pub in-north-spec : {M : Type 1} → statement M
 in-north-spec =
-    tie.close
-    (tie.spec
-    (λ c. search cases)
-    (λ c. search cases)
-    (λ c κs. search needs)
-    returns-3
-    returns-4
-    (λ c κs. search needs)
-    (λ c. omega (arith, summands (c .before)))
-    (λ c. omega (arith, summands (c .before)))
-    (λ c. omega (arith, summands (c .before)))
-    returns-5)
+    tie.close (tie.spec (λ c. search cases) (λ c. search cases) (λ c κs. search needs) returns-3 returns-4 (λ c κs. search needs)
+    (λ c. omega (arith, summands (c .before))) (λ c. omega (arith, summands (c .before)))
+    (λ c. omega (arith, summands (c .before))) returns-5)

@@ -45,15 +45,6 @@ returns-4 c =
 
 pub in-place-spec : {M : Type 1} → statement M
 in-place-spec =
-    tie.close
-    (tie.spec
-    (λ c. too-early _ _ _ _ _ _ (c .if1 .taken))
-    (λ c κs. search needs)
-    (λ c. search needs)
-    (λ c κs. on-column (c .before .before))
-    (λ c. search needs)
-    (λ c κs. on-column (c .before .before .before) .0)
-    returns-2
-    (λ c κs. on-column (c .before .before .before))
-    returns-3
-    returns-4)
+    tie.close (tie.spec (λ c. too-early _ _ _ _ _ _ (c .if1 .taken)) (λ c κs. search needs) (λ c. search needs)
+    (λ c κs. on-column (c .before .before)) (λ c. search needs) (λ c κs. on-column (c .before .before .before) .0) returns-2
+    (λ c κs. on-column (c .before .before .before)) returns-3 returns-4)

@@ -6,33 +6,19 @@ use Rattle.plan.proofs.flow_at.Tie as tie
 
 returns : tie.Need-returns
 unfolding flowFrom
-returns c = λ j. record {
-  xs = c .before .before .before .before .before .before .before .before .before .wide .ensures .0 j;
-  ys = c .before .before .before .before .before .before .before .wide2 .ensures .0 j;
-  xd = c .before .before .before .before .before .wide3 .ensures .0 j;
-  yd = c .before .before .before .wide4 .ensures .0 j;
-  period = c .before .before .two-bytes .ensures .0 j;
-  burst = c .wide5 .ensures .0 j;
-}
+returns c =
+    let row = c .before .before .before .before .before in
+    λ j. record {
+      xs = row .before .before .before .before .wide .ensures .0 j;
+      ys = row .before .before .wide2 .ensures .0 j;
+      xd = row .wide3 .ensures .0 j;
+      yd = c .before .before .before .wide4 .ensures .0 j;
+      period = c .before .before .two-bytes .ensures .0 j;
+      burst = c .wide5 .ensures .0 j;
+    }
 
 pub flow-at-spec : {M : Type 1} → statement M
 flow-at-spec =
-    tie.close
-    (tie.spec
-    (λ c. search needs)
-    (λ c. search needs)
-    (λ c. search needs)
-    (λ c. search needs)
-    (λ c. search needs)
-    (λ c. search needs)
-    (λ c. search needs)
-    (λ c. search needs)
-    (λ c. search needs)
-    (λ c. search needs)
-    (λ c. search needs)
-    (λ c. search needs)
-    (λ c. search needs)
-    (λ c. search needs)
-    (λ c. search needs)
-    (λ c. search needs)
-    returns)
+    tie.close (tie.spec (λ c. search needs) (λ c. search needs) (λ c. search needs) (λ c. search needs) (λ c. search needs)
+    (λ c. search needs) (λ c. search needs) (λ c. search needs) (λ c. search needs) (λ c. search needs) (λ c. search needs)
+    (λ c. search needs) (λ c. search needs) (λ c. search needs) (λ c. search needs) (λ c. search needs) returns)

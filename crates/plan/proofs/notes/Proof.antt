@@ -24,7 +24,8 @@ slice-aggregate-result c =
 returns : tie.Need-returns
 unfolding notesOf
 returns c =
-    rw (← (c .before .before .before .before .before .answer-of .ensures), c .before .before .before .enum-told .given .1, c .before .before .read-trailer .ensures)
+    let told = c .before .before .before in
+    rw (← (told .before .before .answer-of .ensures), told .enum-told .given .1, c .before .before .read-trailer .ensures)
 
 returns-2 : tie.Need-returns-2
 unfolding notesOf
@@ -32,14 +33,5 @@ returns-2 c = rw (← (c .before .before .before .answer-of .ensures), c .before
 
 pub notes-spec : {M : Type 1} → statement M
 notes-spec =
-    tie.close
-    (tie.spec
-    (λ c. search needs)
-    (λ c. search needs)
-    read-trailer-requires
-    (λ c. search needs)
-    slice-aggregate-result
-    (λ c. search needs)
-    (λ c. search needs)
-    returns
-    returns-2)
+    tie.close (tie.spec (λ c. search needs) (λ c. search needs) read-trailer-requires (λ c. search needs) slice-aggregate-result
+    (λ c. search needs) (λ c. search needs) returns returns-2)

@@ -8,29 +8,17 @@ use Rattle.plan.proofs.read_trailer.Tie as tie
 
 returns : tie.Need-returns
 unfolding trailerOf littleEndian4
-returns c = λ j. record {
-  start = c .before .before .before .before .before .before .two-bytes .ensures .0 j + 65536 * c .before .before .before .before .before .two-bytes2 .ensures .0 j;
-  count = c .before .before .before .before .two-bytes3 .ensures .0 j;
-  sx = c .before .before .wide .ensures .0 j;
-  sy = c .wide2 .ensures .0 j;
-}
+returns c =
+    let words = c .before .before .before .before in
+    λ j. record {
+      start = words .before .before .two-bytes .ensures .0 j + 65536 * words .before .two-bytes2 .ensures .0 j;
+      count = words .two-bytes3 .ensures .0 j;
+      sx = c .before .before .wide .ensures .0 j;
+      sy = c .wide2 .ensures .0 j;
+    }
 
 pub read-trailer-spec : {M : Type 1} → statement M
 read-trailer-spec =
-    tie.close
-    (tie.spec
-    (λ c. search needs)
-    (λ c. search needs)
-    (λ c. search needs)
-    (λ c. search needs)
-    (λ c. search needs)
-    (λ c. search needs)
-    (λ c. search needs)
-    (λ c. search needs)
-    (λ c. search needs)
-    (λ c. search needs)
-    (λ c. search needs)
-    (λ c. search needs)
-    (λ c. search needs)
-    (λ c. search needs)
-    returns)
+    tie.close (tie.spec (λ c. search needs) (λ c. search needs) (λ c. search needs) (λ c. search needs) (λ c. search needs)
+    (λ c. search needs) (λ c. search needs) (λ c. search needs) (λ c. search needs) (λ c. search needs) (λ c. search needs)
+    (λ c. search needs) (λ c. search needs) (λ c. search needs) returns)

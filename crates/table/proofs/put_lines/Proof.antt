@@ -41,14 +41,5 @@ returns c =
 
 pub put-lines-spec : {M : Type 1} → statement M
 put-lines-spec =
-    tie.close
-    (tie.spec
-    Inv-loop
-    μ-loop
-    loop-holds
-    put-line-requires
-    (λ c. omega arith)
-    (λ c. omega arith)
-    loop-again
-    same-length
+    tie.close (tie.spec Inv-loop μ-loop loop-holds put-line-requires (λ c. omega arith) (λ c. omega arith) loop-again same-length
     returns)

@@ -15,12 +15,8 @@ returns c =
 
 pub put-refused-spec : {M : Type 1} → statement M
 put-refused-spec =
-    tie.close
-    (tie.spec
-    (λ c. search needs)
-    (λ c κs. search needs)
+    tie.close (tie.spec (λ c. search needs) (λ c κs. search needs)
     (λ c κs. omega (arith, c .before .before .before .put-text .ensures .place))
     (λ c κs. omega (arith, c .before .before .before .before .before .before .before .put-text .ensures .place))
     (λ c κs. omega (arith, c .before .before .before .before .before .before .before .before .before .before .before .put-text .ensures .place))
-    (λ c. search needs)
-    returns)
+    (λ c. search needs) returns)

@@ -72,16 +72,5 @@ mul-t11 c =
 
 pub conflict-east-spec : {M : Type 1} → statement M
 conflict-east-spec =
-    tie.close
-    (tie.spec
-    (λ c κs. search needs)
-    (λ c κs. search needs)
-    returns
-    (λ c κs. search needs)
-    returns-2
-    returns-3
-    (λ c κs. search needs)
-    returns-4
-    (λ c. search needs)
-    mul-t11
-    returns-5)
+    tie.close (tie.spec (λ c κs. search needs) (λ c κs. search needs) returns (λ c κs. search needs) returns-2 returns-3
+    (λ c κs. search needs) returns-4 (λ c. search needs) mul-t11 returns-5)

@@ -43,4 +43,5 @@ returns c =
 
 pub demand-spec : {M : Type 1} → statement M
 demand-spec =
-    tie.close (tie.spec Inv-loop μ-loop loop-holds rival-share-requires add-sum (λ c. omega arith) (λ c. omega arith) loop-again returns)
+    tie.close (tie.spec Inv-loop μ-loop loop-holds rival-share-requires add-sum (λ c. omega arith) (λ c. omega arith) loop-again
+    returns)
