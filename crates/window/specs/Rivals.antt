@@ -1,15 +1,22 @@
--- The rivals of a flow, the flows that conflict with it, as the search keeps them: three words each, σ, P and J.
+-- What the inner functions ask and keep: two flows of a plan, and the rivals of a flow, those that conflict with it, as three words each, σ, P and J.
 use mathlib.Core.List.{List}
 use mathlib.Core.Path.{_≡_}
 use Prim.Native.Nat.{ℕ, _+_, _-_, _*_, _/_, _≤_, _<_}
 use lib.ListN.{length, getD, set}
 use Rattle.laws.specs.Bounded.{sumBelow}
 use Rattle.flow.specs.declared.Flow.{Flow}
-use Rattle.flow.specs.Plan.{Plan, mostFlows, mostBurst}
+use Rattle.flow.specs.Plan.{Plan, FlowOk, mostSize, mostFlows, mostBurst}
 use Rattle.bucket.specs.Curve.{curve}
 use Rattle.window.specs.declared.Conflict.{Conflict}
 use Rattle.window.specs.declared.Conflict.the-variants.{Free, Spread}
 use Rattle.window.specs.Window.{shareOf}
+
+-- two flows of one plan, as far as their conflict goes
+pub record Pair (sx sy : ℕ) (f g : Flow) : Type 0 where
+  pub sx-most : sx ≤ mostSize
+  pub sy-most : sy ≤ mostSize
+  pub own : FlowOk sx sy f
+  pub other : FlowOk sx sy g
 
 -- σ, P and J
 abbrev pub rivalWords : ℕ

@@ -1,8 +1,8 @@
 -- The interference I(t), the least window T and the lone wait (01, Windows).
 use mathlib.Core.Bool.{cond}
-use Prim.Native.Nat.{ℕ, zero, suc, _+_, _-_, _≤_}
+use Prim.Native.Nat.{ℕ, zero, suc, _+_, _-_}
 use lib.Dec.{ltb, eqb}
-use lib.ListN.{length, set}
+use lib.ListN.{length}
 use Rattle.laws.specs.Bounded.{sumBelow}
 use Rattle.flow.specs.declared.Flow.{Flow}
 use Rattle.flow.specs.Plan.{Plan, flowAt}
@@ -42,18 +42,3 @@ windowOf p f = leastFrom (interference p f) mostWindow 1
 -- a lone packet waits at most P + T − 2
 abbrev pub loneWait : Flow → ℕ → ℕ
 loneWait f T = f .period + T - 2
-
--- the first finding is no later than the second; no window is later than every window
-abbrev pub NoLater : Found → Found → Type 0
-NoLater (At t) (At u) = t ≤ u
-NoLater Nothing (At u) = ⊥
-NoLater found Nothing = Unit
-
--- a flow with another period
-abbrev pub flowWithPeriod : Flow → ℕ → Flow
-flowWithPeriod f period = record { xs = f .xs; ys = f .ys; xd = f .xd; yd = f .yd; period = period; burst = f .burst }
-
--- the plan with another period for flow number g
-abbrev pub withPeriod : Plan → ℕ → ℕ → Plan
-withPeriod p g period =
-    record { sx = p .sx; sy = p .sy; flows = set (p .flows) g (flowWithPeriod (flowAt p g) period) }

@@ -3,11 +3,11 @@ ghost use mathlib.Core.Path.{_≡_};
 ghost use Prim.Native.Nat.{_+_, _*_, _<_, _≤_};
 ghost use lib.Dec.{leb};
 ghost use lib.ListN.{length};
-ghost use Rattle.window.specs.Conflict.{Pair, conflict, conflictEast, conflictSouth};
+ghost use Rattle.window.specs.Conflict.{conflict, conflictEast, conflictSouth};
 ghost use Rattle.window.specs.Window.{mostWindow, leastFrom, loneWait};
 ghost use Rattle.flow.specs.Plan.{FlowOk, mostSize, mostPeriod};
-ghost use Rattle.window.specs.Flight.{flightBound, mostFlight};
-ghost use Rattle.window.specs.Rivals.{rivalWords, rivalShare, rivalRate, ratesOf, wholeLink, demandOf, Rivals, RivalOk, kept, keptWith};
+ghost use Rattle.window.specs.Flight.{flightBound};
+ghost use Rattle.window.specs.Rivals.{Pair, rivalWords, rivalShare, rivalRate, ratesOf, wholeLink, demandOf, Rivals, RivalOk, kept, keptWith};
 use flow::Flow;
 use flow::Port;
 
@@ -28,7 +28,7 @@ pub enum Conflict {
     Spread(u32),
 }
 
-// The least window, or the finding that there is none.
+// What a search finds: the window T, or none.
 pub enum Found {
     At(u32),
     Nothing,
@@ -180,7 +180,7 @@ pub fn keep_rival(rivals: &mut [u32], n: usize, g: Flow, c: Conflict) -> usize
 // The most cycles of a flow's packet from entry to exit, with 2.
 pub fn flight_bound(sx: u32, sy: u32, f: Flow) -> u32
     requires { ⌜ (FlowOk sx sy f) × ((sx ≤ mostSize) × (sy ≤ mostSize)) ⌝ }
-    ensures { λ r. ⌜ (r ≡ flightBound sx sy f) × (r ≤ mostFlight) ⌝ }
+    ensures { λ r. ⌜ r ≡ flightBound sx sy f ⌝ }
 {
     let dx = f.offset_x(sx);
     let dy = f.offset_y(sy);
