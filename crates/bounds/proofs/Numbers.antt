@@ -1,13 +1,11 @@
 -- Refusal numbers are small: a plan's at most 7, a window's at most 14. Rests on the definitions of the refusals.
 use mathlib.Core.Bool.{Bool, true, false, cond, not, _&&_, _||_}
 use mathlib.Core.List.{List}
-use mathlib.Core.Logic.{inl, inr}
 use Prim.Native.Nat.{ℕ, zero, suc, _+_, _-_, _*_, _≤_}
 use native.Mathlib.Nat.{le-trans}
 use native.Mathlib.Omega.{arith}
 use lib.Dec.{ltb, eqb}
 use lib.ListN.{length}
-use Rattle.laws.proofs.Cases.{test}
 use Rattle.flow.specs.declared.Flow.{Flow}
 use Rattle.flow.specs.Plan.{onTorus, mostFlows}
 use Rattle.plan.specs.declared.Answer.{Answer}
@@ -19,7 +17,8 @@ use Rattle.plan.specs.Layout.{mostFile, recordSize, trailerSize, tagged, traile
 use Rattle.window.specs.declared.Found.{Found}
 use Rattle.window.specs.declared.Found.the-variants.{At, Nothing}
 use Rattle.window.specs.Window.{windowOf}
-use Rattle.bounds.specs.Calls.{NumberMost, done, refused, asked, windowFound, windowAnswer}
+use Rattle.bounds.specs.Calls.{asked, windowFound, windowAnswer}
+use Rattle.bounds.specs.Inner.{NumberMost, done, refused}
 
 pub refused-most : {m n place : ℕ} → NumberMost m (Refused n place) → n ≤ m
 refused-most (refused l) = l
@@ -70,8 +69,12 @@ plan-most file =
 -- no call on a flow adds a larger number than its own
 asked-most : {m : ℕ} (file : List ℕ) (f : ℕ) (a : Answer) → 12 ≤ m → NumberMost m a → NumberMost m (asked file f a)
 unfolding asked
-asked-most {m} file f a h k = or-else-most (raise (plan-most file)) (elim (test (ltb f (length (planOf file .flows)))) [ inl below ↦ rw below k | inr above ↦ rw above (refused h) ])
+asked-most {m} file f a h k = or-else-most (raise (plan-most file)) (known (ltb f (length (planOf file .flows))))
   where
+    known : (b : Bool) → NumberMost m (cond b a (Refused 12 0))
+    known true = k
+    known false = refused h
+
     raise : {a : Answer} → NumberMost 7 a → NumberMost m a
     raise done = done
     raise (refused l) =

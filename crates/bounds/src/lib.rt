@@ -11,11 +11,12 @@ ghost use Rattle.plan.specs.declared.Answer.the-variants.{Done};
 ghost use Rattle.plan.specs.Layout.{planOf};
 ghost use Rattle.window.specs.Window.{windowOf};
 ghost use Rattle.window.specs.Rivals.{rivalWords, RivalsAmong};
-ghost use Rattle.bounds.specs.Calls.{Opened, asked, windowAnswer, flightAnswer, flightOfPlan};
+ghost use Rattle.bounds.specs.Inner.{FlowOf};
+ghost use Rattle.bounds.specs.Calls.{asked, windowAnswer, flightAnswer, flightOfPlan};
 
 // Flow number f of an accepted file.
 pub fn flow_of(file: &[u8], t: Trailer, f: u32) -> Flow
-    requires { ⌜ (Opened (now file) t) × (f < t .count) ⌝ }
+    requires { ⌜ FlowOf (now file) t f ⌝ }
     ensures { λ r. ⌜ r ≡ flowAt (planOf (now (file .entry))) f ⌝ }
 {
     plan::flow_at(file, (t.start as usize) + plan::RECORD_SIZE * (f as usize))
@@ -23,7 +24,7 @@ pub fn flow_of(file: &[u8], t: Trailer, f: u32) -> Flow
 
 // Flow g, after the n rivals of flow f among the flows before it.
 fn meet(file: &[u8], t: Trailer, own: Flow, f: u32, g: u32, rivals: &mut [u32], n: usize) -> usize
-    requires { ⌜ (Opened (now file) t) × ((f < t .count) × (g < t .count)) ⌝ }
+    requires { ⌜ (FlowOf (now file) t f) × (FlowOf (now file) t g) ⌝ }
     requires { ⌜ own ≡ flowAt (planOf (now file)) f ⌝ }
     requires { ⌜ RivalsAmong (planOf (now file)) f g (now rivals) n ⌝ }
     ensures { λ r. ⌜ RivalsAmong (planOf (now (file .entry))) f (g + 1) (now (rivals .exit)) r ⌝ }
@@ -38,7 +39,7 @@ fn meet(file: &[u8], t: Trailer, own: Flow, f: u32, g: u32, rivals: &mut [u32], 
 
 // The rivals of flow f, found once; they are as many as is answered.
 fn find_rivals(file: &[u8], t: Trailer, f: u32, rivals: &mut [u32]) -> usize
-    requires { ⌜ (Opened (now file) t) × ((f < t .count) × (rivalWords * t .count ≤ length (now rivals))) ⌝ }
+    requires { ⌜ (FlowOf (now file) t f) × (rivalWords * t .count ≤ length (now rivals)) ⌝ }
     ensures { λ r. ⌜ RivalsAmong (planOf (now (file .entry))) f (t .count) (now (rivals .exit)) r ⌝ }
 {
     let own = flow_of(file, t, f);
@@ -52,7 +53,7 @@ fn find_rivals(file: &[u8], t: Trailer, f: u32, rivals: &mut [u32]) -> usize
 
 // The window T of flow f of an accepted file, with room for its rivals.
 fn window_in(file: &[u8], t: Trailer, f: u32, rivals: &mut [u32]) -> Found
-    requires { ⌜ (Opened (now file) t) × ((f < t .count) × (rivalWords * t .count ≤ length (now rivals))) ⌝ }
+    requires { ⌜ (FlowOf (now file) t f) × (rivalWords * t .count ≤ length (now rivals)) ⌝ }
     ensures { λ r. ⌜ r ≡ windowOf (planOf (now (file .entry))) f ⌝ }
 {
     let n = find_rivals(file, t, f, rivals);
@@ -61,7 +62,7 @@ fn window_in(file: &[u8], t: Trailer, f: u32, rivals: &mut [u32]) -> Found
 
 // The window T of flow f of an accepted file. Few flows need little room.
 pub fn window_found(file: &[u8], t: Trailer, f: u32) -> Found
-    requires { ⌜ (Opened (now file) t) × (f < t .count) ⌝ }
+    requires { ⌜ FlowOf (now file) t f ⌝ }
     ensures { λ r. ⌜ r ≡ windowOf (planOf (now (file .entry))) f ⌝ }
 {
     if t.count <= 64 {
@@ -74,7 +75,7 @@ pub fn window_found(file: &[u8], t: Trailer, f: u32) -> Found
 
 // The flight bound of flow f of an accepted file.
 pub fn flight_found(file: &[u8], t: Trailer, f: u32) -> u32
-    requires { ⌜ (Opened (now file) t) × (f < t .count) ⌝ }
+    requires { ⌜ FlowOf (now file) t f ⌝ }
     ensures { λ r. ⌜ r ≡ flightOfPlan (planOf (now (file .entry))) f ⌝ }
 {
     window::flight_bound(t.sx, t.sy, flow_of(file, t, f))

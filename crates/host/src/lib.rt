@@ -1,7 +1,8 @@
 // The C interface, declared in include/hrt.h: thin, over the calls of plan, bounds, reset, writing and cycle.
 use plan::Answer;
 ghost use mathlib.Core.Path.{_≡_};
-ghost use Rattle.bounds.specs.Calls.{windowAnswer, flightAnswer, NumberMost};
+ghost use Rattle.bounds.specs.Calls.{windowAnswer, flightAnswer};
+ghost use Rattle.bounds.specs.Inner.{NumberMost};
 ghost use Rattle.host.specs.Words.{windowWord, answerWord, notesAnswer, said, saidOf, saidStep, saidOfStep};
 ghost use Rattle.state.specs.Calls.{resetOn, writeOn};
 ghost use Rattle.cycle.specs.Calls.{offerOn, stepOn};

@@ -2,9 +2,9 @@
 use borrow.Author.Needs.{needs}
 use mathlib.Core.Path.{sym, ap, _∙_}
 use Rattle.plan.specs.declared.Answer.the-variants.{Done}
+use Rattle.plan.proofs.Accepted.{done-trailed}
 use Rattle.bounds.specs.Calls.{flightAnswer}
-use Rattle.bounds.proofs.Asked.{Known, asked-refused, asked-done, known-opened}
-use Rattle.bounds.proofs.Opened.{accepted-long}
+use Rattle.bounds.proofs.Asked.{Known, asked-refused, asked-done, known-flow}
 use Rattle.bounds.proofs.flight.Statement.{statement}
 use Rattle.bounds.proofs.flight.Tie as tie
 
@@ -12,10 +12,10 @@ known : (c : tie.After-enum-told) → let s = c .before .before .before .before 
 known c = asked-done _ _ _ (sym (c .before .before .ask .ensures) ∙ c .enum-told .given .1)
 
 read-trailer-requires : tie.Need-read-trailer-requires
-read-trailer-requires c κs = accepted-long _ (known c .accepted)
+read-trailer-requires c κs = done-trailed _ _ (known c .done) .long
 
 flight-found-requires : tie.Need-flight-found-requires
-flight-found-requires c κs = known-opened _ _ _ (known (c .before)) (c .read-trailer .ensures)
+flight-found-requires c κs = known-flow _ _ _ (known (c .before)) (c .read-trailer .ensures)
 
 returns : tie.Need-returns
 unfolding flightAnswer

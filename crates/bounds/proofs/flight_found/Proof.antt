@@ -1,21 +1,20 @@
 -- `flight_found`: the flight bound of the plan's flow.
 use borrow.Author.Needs.{needs}
 use native.Mathlib.Omega.{arith}
-use Rattle.bounds.proofs.Opened.{opened-pair, opened-sx, opened-sy}
+use Rattle.bounds.proofs.Opened.{flow-pair, opened-sx, opened-sy}
 use Rattle.bounds.proofs.flight_found.Statement.{statement}
 use Rattle.bounds.proofs.flight_found.Tie as tie
 
 flight-bound-requires : tie.Need-flight-bound-requires
 flight-bound-requires c κs =
     let p = c .before .before .pre in
-    let f = p .1 in
-    let pair = opened-pair _ _ (p .0) (λ i. omega (arith, c .before .shared-slice-known .given i)) _ _ f f in
+    let pair = flow-pair _ _ _ p (λ i. omega (arith, c .before .shared-slice-known .given i)) _ p in
     (rw (c .flow-of .ensures) (pair .own), (pair .sx-most, pair .sy-most))
 
 returns : tie.Need-returns
 returns c =
-    let o = c .before .before .before .pre .0 in
-    rw (opened-sx _ _ o, opened-sy _ _ o, ← (c .before .flow-of .ensures)) (c .flight-bound .ensures .0)
+    let o = c .before .before .before .pre .opened in
+    rw (opened-sx _ _ o, opened-sy _ _ o, ← (c .before .flow-of .ensures)) (c .flight-bound .ensures)
 
 pub flight-found-spec : {M : Type 1} → statement M
 flight-found-spec = tie.close (tie.spec (λ c κs. search needs) flight-bound-requires returns)

@@ -1,9 +1,9 @@
 -- `window`: the refusal, or the window found for a known flow, or 14.
 use borrow.Author.Needs.{needs}
 use mathlib.Core.Path.{sym, _∙_}
+use Rattle.plan.proofs.Accepted.{done-trailed}
 use Rattle.bounds.specs.Calls.{windowAnswer}
-use Rattle.bounds.proofs.Asked.{Known, asked-refused, asked-done, known-opened}
-use Rattle.bounds.proofs.Opened.{accepted-long}
+use Rattle.bounds.proofs.Asked.{Known, asked-refused, asked-done, known-flow}
 use Rattle.bounds.proofs.window.Statement.{statement}
 use Rattle.bounds.proofs.window.Tie as tie
 
@@ -11,10 +11,10 @@ known : (c : tie.After-enum-told) → let s = c .before .before .before .before 
 known c = asked-done _ _ _ (sym (c .before .before .ask .ensures) ∙ c .enum-told .given .1)
 
 read-trailer-requires : tie.Need-read-trailer-requires
-read-trailer-requires c κs = accepted-long _ (known c .accepted)
+read-trailer-requires c κs = done-trailed _ _ (known c .done) .long
 
 window-found-requires : tie.Need-window-found-requires
-window-found-requires c κs = known-opened _ _ _ (known (c .before)) (c .read-trailer .ensures)
+window-found-requires c κs = known-flow _ _ _ (known (c .before)) (c .read-trailer .ensures)
 
 returns : tie.Need-returns
 unfolding windowAnswer

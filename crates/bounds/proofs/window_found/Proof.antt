@@ -8,7 +8,7 @@ use Rattle.bounds.proofs.window_found.Tie as tie
 window-in-requires-2 : tie.Need-window-in-requires-2
 window-in-requires-2 c κs =
     let p = c .before .before .before .before .pre in
-    (p .0, (p .1, omega (arith, opened-few _ _ (p .0))))
+    (p, omega (arith, opened-few _ _ (p .opened)))
 
 pub window-found-spec : {M : Type 1} → statement M
 window-found-spec =
