@@ -59,18 +59,6 @@ unfoldable pub lines : Plan → ℕ → List ℕ
 lines p zero = []
 lines p (suc n) = lines p n ++ line p n
 
--- no field is longer: a space and ten digits
-abbrev pub mostField : ℕ
-mostField = 11
-
--- no line is longer
-abbrev pub mostLine : ℕ
-mostLine = 64
-
--- no table is longer: a header and 256 lines
-abbrev pub mostTable : ℕ
-mostTable = 16448
-
 -- "flow port window flight wait"
 abbrev pub header : List ℕ
 header =

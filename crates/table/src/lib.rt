@@ -13,9 +13,10 @@ ghost use Rattle.flow.specs.Plan.{mostPeriod};
 ghost use Rattle.plan.specs.Layout.{planOf};
 ghost use Rattle.window.specs.declared.Found.the-variants.{At};
 ghost use Rattle.window.specs.Window.{mostWindow};
-ghost use Rattle.bounds.specs.Calls.{Opened};
-ghost use Rattle.table.specs.Decimal.{decimal, mostDigits};
-ghost use Rattle.table.specs.Table.{field, portField, foundField, waitOf, row, line, lines, refusedLine, tableOf, mostField, mostLine, mostTable};
+ghost use Rattle.bounds.specs.Inner.{Opened, FlowOf};
+ghost use Rattle.table.specs.Decimal.{decimal};
+ghost use Rattle.table.specs.Table.{field, portField, foundField, waitOf, row, line, lines, refusedLine, tableOf};
+ghost use Rattle.table.specs.Room.{mostDigits, mostField, mostLine, mostTable};
 
 fn put_byte(out: &mut [u8], at: usize, b: u8) -> usize
     requires { ⌜ at < length (now out) ⌝ }
@@ -113,7 +114,7 @@ fn wait_of(flow: Flow, window: Found) -> Found
 
 // The line of flow f of an accepted file.
 fn put_line(file: &[u8], t: Trailer, f: u32, out: &mut [u8], at: usize) -> usize
-    requires { ⌜ (Opened (now file) t) × ((f < t .count) × (at + mostLine ≤ length (now out))) ⌝ }
+    requires { ⌜ (FlowOf (now file) t f) × (at + mostLine ≤ length (now out)) ⌝ }
     ensures { λ r. ⌜ Wrote (now (out .entry)) at (line (planOf (now (file .entry))) f) r (now (out .exit)) ⌝ }
     ensures { λ r. ⌜ r ≤ at + mostLine ⌝ }
 {
