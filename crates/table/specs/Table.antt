@@ -34,25 +34,25 @@ abbrev pub portField : Port → List ℕ
 portField East = 32 ∷ 69 ∷ []
 portField South = 32 ∷ 83 ∷ []
 
--- a number, or `-` where 14 leaves none
-abbrev pub foundField : Found → List ℕ
-foundField (At n) = field n
-foundField Nothing = noField
+-- T, or `-` on 14
+abbrev pub windowField : Found → List ℕ
+windowField (At T) = field T
+windowField Nothing = noField
 
--- the lone wait, where there is a window
-abbrev pub waitOf : Flow → Found → Found
-waitOf f (At T) = At (loneWait f T)
-waitOf f Nothing = Nothing
+-- the lone wait, or `-` on 14
+abbrev pub waitField : Flow → Found → List ℕ
+waitField f (At T) = field (loneWait f T)
+waitField f Nothing = noField
 
 -- number, port, T, flight bound, lone wait
-unfoldable pub row : ℕ → Port → Found → ℕ → Found → List ℕ
-row f port window flight wait = decimal f ++ portField port ++ foundField window ++ field flight ++ foundField wait ++ newline
+unfoldable pub row : ℕ → Flow → Port → Found → ℕ → List ℕ
+row f flow port window flight = decimal f ++ portField port ++ windowField window ++ field flight ++ waitField flow window ++ newline
 
 -- the line of flow number f
 unfoldable pub line : Plan → ℕ → List ℕ
 line p f =
     let flow = flowAt p f in
-    row f (portOf (p .sx) flow) (windowOf p f) (flightBound (p .sx) (p .sy) flow) (waitOf flow (windowOf p f))
+    row f flow (portOf (p .sx) flow) (windowOf p f) (flightBound (p .sx) (p .sy) flow)
 
 -- the lines of the first n flows
 unfoldable pub lines : Plan → ℕ → List ℕ

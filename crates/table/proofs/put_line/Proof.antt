@@ -24,24 +24,28 @@ port-requires c κs =
     let flow = in-range s in
     rw (c .before .before .flow-of .ensures, ← (opened-sx _ _ (s .before .pre .0 .opened))) (flow .xs-on, flow .xd-on)
 
-wait-of-requires : tie.Need-wait-of-requires
-wait-of-requires c κs =
-    let flow = in-range (c .before .before .before .before .before) in (
-      rw (c .before .before .before .flow-of .ensures) (flow .period-least, flow .period-most),
-      λ T e. window-fits _ _ T (sym (c .before .before .window-found .ensures) ∙ e),
+put-row-requires : tie.Need-put-row-requires
+put-row-requires c κs =
+    let found = c .before .before .before in
+    let flow = in-range (found .before .before .before) in (
+      record {
+        period-least = rw (found .before .flow-of .ensures) (flow .period-least);
+        period-most = rw (found .before .flow-of .ensures) (flow .period-most);
+        window-fits = λ T e. window-fits _ _ T (sym (found .window-found .ensures) ∙ e);
+      },
+      omega arith,
     )
 
 -- the row is the plan's line
-same : (c : tie.After-wait-of) → let w = c .before .before .before in let a = w .before .before .before .before .args in
-    row (a .f) (c .before .port .result) (w .window-found .result) (c .before .before .flight-found .result) (c .wait-of .result)
+same : (c : tie.After-port) → let w = c .before .before in let a = w .before .before .before .before .args in
+    row (a .f) (w .before .flow-of .result) (c .port .result) (w .window-found .result) (c .before .flight-found .result)
     ≡ line (planOf (a .file .now)) (a .f)
 unfolding line
 same c =
-    let w = c .before .before .before in
+    let w = c .before .before in
     rw (
-      c .wait-of .ensures,
-      c .before .port .ensures,
-      c .before .before .flight-found .ensures,
+      c .port .ensures,
+      c .before .flight-found .ensures,
       w .window-found .ensures,
       w .before .flow-of .ensures,
       ← (opened-sx _ _ (w .before .before .before .before .pre .0 .opened)),
@@ -54,5 +58,5 @@ returns c =
 
 pub put-line-spec : {M : Type 1} → statement M
 put-line-spec =
-    tie.close (tie.spec (λ c κs. search needs) (λ c κs. search needs) (λ c κs. search needs) port-requires wait-of-requires
-    (λ c κs. search needs) (λ c. search needs) returns)
+    tie.close (tie.spec (λ c κs. search needs) (λ c κs. search needs) (λ c κs. search needs) port-requires put-row-requires
+    (λ c. search needs) returns)

@@ -6,7 +6,7 @@ use Rattle.laws.specs.Written.{Wrote}
 use Rattle.laws.proofs.Written.{wrote-none, wrote-then, wrote-length}
 use Rattle.plan.specs.Layout.{planOf}
 use Rattle.table.specs.Table.{lines}
-use Rattle.table.specs.Room.{mostLine}
+use Rattle.table.specs.Inner.{mostLine}
 use Rattle.table.proofs.Rows.{lines-none, lines-more}
 use Rattle.table.proofs.put_lines.Statement.{statement}
 use Rattle.table.proofs.put_lines.Tie as tie

@@ -19,10 +19,18 @@ returns c =
     let window = flight .before .before .before .before in
     let port = window .before .before .before .before in
     let number = wrote-then (port .before .before .before .before .put-decimal .ensures .0) (port .put-port .ensures .0) in
-    let found = wrote-then (wrote-then number (window .put-found .ensures .0)) (flight .put-field .ensures .0) in
-    (wrote-then (wrote-then found (wait .put-found2 .ensures .0)) (end .put-byte .ensures), omega (arith, end .put-byte .ensures .place))
+    let found = wrote-then (wrote-then number (window .put-window .ensures .0)) (flight .put-field .ensures .0) in
+    (wrote-then (wrote-then found (wait .put-wait .ensures .0)) (end .put-byte .ensures), omega (arith, end .put-byte .ensures .place))
+
+put-wait-requires : tie.Need-put-wait-requires
+put-wait-requires c κs =
+    let flight = c .before .before .before in
+    let window = flight .before .before .before .before in
+    let port = window .before .before .before .before in
+    let number = port .before .before .before .before in
+    (number .before .before .before .pre .0, omega arith)
 
 pub put-row-spec : {M : Type 1} → statement M
 put-row-spec =
-    tie.close (tie.spec put-decimal-requires (λ c κs. omega arith) (λ c κs. omega arith) (λ c κs. omega arith)
-    (λ c κs. omega arith) (λ c κs. omega arith) (λ c. search needs) returns)
+    tie.close (tie.spec put-decimal-requires (λ c κs. omega arith) (λ c κs. omega arith) (λ c κs. omega arith) put-wait-requires
+    (λ c κs. omega arith) (λ c. search needs) returns)
