@@ -20,6 +20,6 @@ pub record FlowOf (file : List ℕ) (t : Trailer) (f : ℕ) : Type 0 where
   pub below : f < t .count
 
 -- the answer has no larger refusal number
-pub data NumberMost (m : ℕ) : Answer → Type 0 where
-  done : {v : ℕ} → NumberMost m (Done v)
-  refused : {n place : ℕ} → n ≤ m → NumberMost m (Refused n place)
+abbrev pub NumberMost : ℕ → Answer → Type 0
+NumberMost m (Done v) = Unit
+NumberMost m (Refused number place) = number ≤ m
