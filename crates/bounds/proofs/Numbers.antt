@@ -16,7 +16,7 @@ use Rattle.plan.specs.Layout.{mostFile, recordSize, trailerSize, tagged, traile
 use Rattle.window.specs.declared.Found.{Found}
 use Rattle.window.specs.declared.Found.the-variants.{At, Nothing}
 use Rattle.window.specs.Window.{windowOf}
-use Rattle.bounds.specs.Calls.{asked, windowFound, windowAnswer}
+use Rattle.bounds.specs.Calls.{asked, windowBy, windowAnswer}
 use Rattle.bounds.specs.Inner.{NumberMost}
 
 or-else-most : (m : ℕ) (a b : Answer) → NumberMost m a → NumberMost m b → NumberMost m (orElse a b)
@@ -85,6 +85,6 @@ pub window-most : (file : List ℕ) (f : ℕ) → NumberMost 14 (windowAnswer fi
 unfolding windowAnswer
 window-most file f = asked-most file f 14 _ (omega arith) (found (windowOf (planOf file) f))
   where
-    found : (w : Found) → NumberMost 14 (windowFound f w)
+    found : (w : Found) → NumberMost 14 (windowBy f w)
     found (At T) = tt
     found Nothing = omega arith

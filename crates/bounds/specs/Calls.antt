@@ -19,18 +19,18 @@ unfoldable pub asked : List ℕ → ℕ → Answer → Answer
 asked file f answer = orElse (planAnswer file) (cond (ltb f (length (planOf file .flows))) answer (Refused 12 0))
 
 -- T, or 14: no window T, with the flow as place
-abbrev pub windowFound : ℕ → Found → Answer
-windowFound f (At T) = Done T
-windowFound f Nothing = Refused 14 f
+abbrev pub windowBy : ℕ → Found → Answer
+windowBy f (At T) = Done T
+windowBy f Nothing = Refused 14 f
 
 -- window: plan, 12, 14
 unfoldable pub windowAnswer : List ℕ → ℕ → Answer
-windowAnswer file f = asked file f (windowFound f (windowOf (planOf file) f))
+windowAnswer file f = asked file f (windowBy f (windowOf (planOf file) f))
 
 -- the flight bound of flow number f
-abbrev pub flightOfPlan : Plan → ℕ → ℕ
-flightOfPlan p f = flightBound (p .sx) (p .sy) (flowAt p f)
+abbrev pub flightBoundOf : Plan → ℕ → ℕ
+flightBoundOf p f = flightBound (p .sx) (p .sy) (flowAt p f)
 
 -- flight bound: plan, 12
 unfoldable pub flightAnswer : List ℕ → ℕ → Answer
-flightAnswer file f = asked file f (Done (flightOfPlan (planOf file) f))
+flightAnswer file f = asked file f (Done (flightBoundOf (planOf file) f))

@@ -12,7 +12,7 @@ ghost use Rattle.plan.specs.Layout.{planOf};
 ghost use Rattle.window.specs.Window.{windowOf};
 ghost use Rattle.window.specs.Rivals.{rivalWords, RivalsAmong};
 ghost use Rattle.bounds.specs.Inner.{FlowOf};
-ghost use Rattle.bounds.specs.Calls.{asked, windowAnswer, flightAnswer, flightOfPlan};
+ghost use Rattle.bounds.specs.Calls.{asked, windowAnswer, flightAnswer, flightBoundOf};
 
 // Flow number f of an accepted file.
 pub fn flow_of(file: &[u8], t: Trailer, f: u32) -> Flow
@@ -61,7 +61,7 @@ fn window_in(file: &[u8], t: Trailer, f: u32, rivals: &mut [u32]) -> Found
 }
 
 // The window T of flow f of an accepted file. Few flows need little room.
-pub fn window_found(file: &[u8], t: Trailer, f: u32) -> Found
+pub fn window_of(file: &[u8], t: Trailer, f: u32) -> Found
     requires { ⌜ FlowOf (now file) t f ⌝ }
     ensures { λ r. ⌜ r ≡ windowOf (planOf (now (file .entry))) f ⌝ }
 {
@@ -74,9 +74,9 @@ pub fn window_found(file: &[u8], t: Trailer, f: u32) -> Found
 }
 
 // The flight bound of flow f of an accepted file.
-pub fn flight_found(file: &[u8], t: Trailer, f: u32) -> u32
+pub fn flight_bound_of(file: &[u8], t: Trailer, f: u32) -> u32
     requires { ⌜ FlowOf (now file) t f ⌝ }
-    ensures { λ r. ⌜ r ≡ flightOfPlan (planOf (now (file .entry))) f ⌝ }
+    ensures { λ r. ⌜ r ≡ flightBoundOf (planOf (now (file .entry))) f ⌝ }
 {
     window::flight_bound(t.sx, t.sy, flow_of(file, t, f))
 }
@@ -106,7 +106,7 @@ pub fn window(file: &[u8], f: u32) -> Answer
 {
     match ask(file, f) {
         Answer::Refused { number, place } => Answer::Refused { number, place },
-        Answer::Done(_) => match window_found(file, plan::read_trailer(file), f) {
+        Answer::Done(_) => match window_of(file, plan::read_trailer(file), f) {
             Found::At(least) => Answer::Done(least),
             Found::Nothing => Answer::Refused {
                 number: 14,
@@ -122,6 +122,6 @@ pub fn flight(file: &[u8], f: u32) -> Answer
 {
     match ask(file, f) {
         Answer::Refused { number, place } => Answer::Refused { number, place },
-        Answer::Done(_) => Answer::Done(flight_found(file, plan::read_trailer(file), f)),
+        Answer::Done(_) => Answer::Done(flight_bound_of(file, plan::read_trailer(file), f)),
     }
 }

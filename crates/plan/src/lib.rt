@@ -41,7 +41,7 @@ fn wide(b: u8) -> u32
 }
 
 // The two bytes at a place as a number, the low one first.
-fn two_bytes(file: &[u8], at: usize) -> u32
+fn little_endian2(file: &[u8], at: usize) -> u32
     requires { ⌜ at + 2 ≤ length (now file) ⌝ }
     ensures { λ r. ⌜ (r ≡ littleEndian2 (now (file .entry)) at) × (r < 65536) ⌝ }
 {
@@ -53,11 +53,11 @@ pub fn read_trailer(file: &[u8]) -> Trailer
     ensures { λ r. ⌜ r ≡ trailerOf (now (file .entry)) ⌝ }
 {
     let at = file.len() - TRAILER_SIZE;
-    let low = two_bytes(file, at);
-    let high = two_bytes(file, at + 2);
+    let low = little_endian2(file, at);
+    let high = little_endian2(file, at + 2);
     Trailer {
         start: low + 65536 * high,
-        count: two_bytes(file, at + 4),
+        count: little_endian2(file, at + 4),
         sx: wide(file[at + 6]),
         sy: wide(file[at + 7]),
     }
@@ -73,13 +73,13 @@ pub fn flow_at(file: &[u8], at: usize) -> Flow
         ys: wide(file[at + 1]),
         xd: wide(file[at + 2]),
         yd: wide(file[at + 3]),
-        period: two_bytes(file, at + 4),
+        period: little_endian2(file, at + 4),
         burst: wide(file[at + 6]),
     }
 }
 
 // The last four bytes are the tag.
-fn is_tagged(file: &[u8]) -> bool
+fn tagged(file: &[u8]) -> bool
     requires { ⌜ trailerSize ≤ length (now file) ⌝ }
     ensures { λ r. ⌜ r ≡ tagged (now (file .entry)) ⌝ }
 {
@@ -137,7 +137,7 @@ fn trailer_number(file: &[u8]) -> u32
     if MOST_FILE < length {
         return 1;
     }
-    if !is_tagged(file) {
+    if !tagged(file) {
         return 2;
     }
     header_number(read_trailer(file), length)

@@ -125,8 +125,8 @@ fn put_line(file: &[u8], t: Trailer, f: u32, out: &mut [u8], at: usize) -> usize
     ensures { λ r. ⌜ r ≤ at + mostLine ⌝ }
 {
     let flow = bounds::flow_of(file, t, f);
-    let window = bounds::window_found(file, t, f);
-    let flight = bounds::flight_found(file, t, f);
+    let window = bounds::window_of(file, t, f);
+    let flight = bounds::flight_bound_of(file, t, f);
     let port = flow.port(t.sx);
     put_row(out, at, f, flow, port, window, flight)
 }

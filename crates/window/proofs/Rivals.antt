@@ -13,7 +13,7 @@ use Rattle.flow.specs.Plan.{mostFlows, mostBurst}
 use Rattle.bucket.proofs.Curve.{curve-span, curve-most}
 use Rattle.window.specs.declared.Conflict.the-variants.{Spread}
 use Rattle.window.specs.Window.{share, mostWindow}
-use Rattle.window.specs.Rivals.{rivalWords, rivalShare, demandOf, mostSpread, RivalOk, Rivals, keptWith}
+use Rattle.window.specs.Rivals.{rivalWords, rivalShare, demandOf, mostSpread, RivalOk, Rivals, keepRival}
 
 pub demand-time : (l : List ℕ) (n t u : ℕ) → t ≤ u → demandOf l n t ≤ demandOf l n u
 unfolding demandOf rivalShare
@@ -45,7 +45,7 @@ demand-more l n t = sum-more _ n
 -- flow g as rival number n, with spread j
 module _ (l : List ℕ) (n : ℕ) (g : Flow) (j : ℕ) (room : rivalWords * n + 2 < length l) where
   abbrev pub with-g : List ℕ
-  with-g = keptWith l n g (Spread j) .words
+  with-g = keepRival l n g (Spread j) .words
 
   -- the words of the rivals before it stay
   with-below : (i : ℕ) → i < rivalWords * n → getD with-g i 0 ≡ getD l i 0

@@ -67,14 +67,14 @@ pub record RivalsAmong (p : Plan) (f m : ℕ) (l : List ℕ) (n : ℕ) : Type 0 
   pub sum : (t : ℕ) → demandOf l n t ≡ sumBelow m (shareOf p f t)
 
 -- words and the number of rivals in them
-pub record Kept : Type 0 where
+pub record Gathered : Type 0 where
   pub count : ℕ
   pub words : List ℕ
 
-abbrev pub kept : ℕ → List ℕ → Kept
-kept n l = record { count = n; words = l }
+abbrev pub gathered : ℕ → List ℕ → Gathered
+gathered n l = record { count = n; words = l }
 
 -- after n rivals, flow g with its conflict
-abbrev pub keptWith : List ℕ → ℕ → Flow → Conflict → Kept
-keptWith l n g Free = kept n l
-keptWith l n g (Spread j) = kept (n + 1) (set (set (set l (rivalWords * n) (g .burst)) (rivalWords * n + 1) (g .period)) (rivalWords * n + 2) j)
+abbrev pub keepRival : List ℕ → ℕ → Flow → Conflict → Gathered
+keepRival l n g Free = gathered n l
+keepRival l n g (Spread j) = gathered (n + 1) (set (set (set l (rivalWords * n) (g .burst)) (rivalWords * n + 1) (g .period)) (rivalWords * n + 2) j)

@@ -7,7 +7,7 @@ ghost use Rattle.window.specs.Conflict.{conflict, conflictEast, conflict
 ghost use Rattle.window.specs.Window.{mostWindow, leastFrom, loneWait};
 ghost use Rattle.flow.specs.Plan.{FlowOk, mostSize, mostPeriod};
 ghost use Rattle.window.specs.Flight.{flightBound};
-ghost use Rattle.window.specs.Rivals.{Pair, rivalWords, rivalShare, rivalRate, ratesOf, wholeLink, demandOf, Rivals, RivalOk, kept, keptWith};
+ghost use Rattle.window.specs.Rivals.{Pair, rivalWords, rivalShare, rivalRate, ratesOf, wholeLink, demandOf, Rivals, RivalOk, gathered, keepRival};
 use flow::Flow;
 use flow::Port;
 
@@ -97,7 +97,7 @@ fn rival_share(rivals: &[u32], k: usize, t: u32) -> u32
 }
 
 // What the first n rivals add to I(t).
-fn demand(rivals: &[u32], n: usize, t: u32) -> u32
+fn demand_of(rivals: &[u32], n: usize, t: u32) -> u32
     requires { ⌜ (Rivals (now rivals) n) × ((1 ≤ t) × (t ≤ mostWindow)) ⌝ }
     ensures { λ r. ⌜ r ≡ demandOf (now (rivals .entry)) n t ⌝ }
 {
@@ -141,7 +141,7 @@ fn search(rivals: &[u32], n: usize) -> Found
         if MOST_WINDOW < t {
             break Found::Nothing;
         }
-        let d = demand(rivals, n, t);
+        let d = demand_of(rivals, n, t);
         if d < t {
             break Found::At(t);
         }
@@ -163,7 +163,7 @@ pub fn least_window(rivals: &[u32], n: usize) -> Found
 // Flow g with its conflict, after n rivals: three words more if it is one.
 pub fn keep_rival(rivals: &mut [u32], n: usize, g: Flow, c: Conflict) -> usize
     requires { ⌜ rivalWords * n + 2 < length (now rivals) ⌝ }
-    ensures { λ r. ⌜ kept r (now (rivals .exit)) ≡ keptWith (now (rivals .entry)) n g c ⌝ }
+    ensures { λ r. ⌜ gathered r (now (rivals .exit)) ≡ keepRival (now (rivals .entry)) n g c ⌝ }
 {
     match c {
         Conflict::Free => n,

@@ -14,8 +14,8 @@ known c = asked-done _ _ _ (sym (c .before .before .ask .ensures) ∙ c .enum-to
 read-trailer-requires : tie.Need-read-trailer-requires
 read-trailer-requires c κs = done-trailed _ _ (known c .done) .long
 
-flight-found-requires : tie.Need-flight-found-requires
-flight-found-requires c κs = known-flow _ _ _ (known (c .before)) (c .read-trailer .ensures)
+flight-bound-of-requires : tie.Need-flight-bound-of-requires
+flight-bound-of-requires c κs = known-flow _ _ _ (known (c .before)) (c .read-trailer .ensures)
 
 returns : tie.Need-returns
 unfolding flightAnswer
@@ -23,9 +23,9 @@ returns c = sym (asked-refused _ _ _ _ _ (sym (c .before .before .before .ask .e
 
 returns-2 : tie.Need-returns-2
 unfolding flightAnswer
-returns-2 c = ap Done (c .flight-found .ensures) ∙ sym (known (c .before .before) .answers _)
+returns-2 c = ap Done (c .flight-bound-of .ensures) ∙ sym (known (c .before .before) .answers _)
 
 pub flight-spec : {M : Type 1} → statement M
 flight-spec =
-    tie.close (tie.spec (λ c κs. search needs) (λ c. search needs) (λ c. search needs) read-trailer-requires flight-found-requires
+    tie.close (tie.spec (λ c κs. search needs) (λ c. search needs) (λ c. search needs) read-trailer-requires flight-bound-of-requires
     returns returns-2)

@@ -6,7 +6,7 @@ use Rattle.flow.specs.Plan.{flowAt}
 use Rattle.plan.specs.Layout.{planOf}
 use Rattle.plan.proofs.Ranges.{Bytes}
 use Rattle.window.specs.Conflict.{conflict}
-use Rattle.window.specs.Rivals.{kept}
+use Rattle.window.specs.Rivals.{gathered}
 use Rattle.window.proofs.Gathered.{among-self, among-more}
 use Rattle.bounds.proofs.Opened.{flow-pair, opened-ok, opened-count, opened-sx, opened-sy}
 use Rattle.bounds.proofs.meet.Statement.{statement}
@@ -49,7 +49,7 @@ returns-2 c =
     (rw count (p .0 .0 .below))
     (rw count (p .0 .1 .below))
     (decided .before .before .if1 .left)
-    (kept (keep .keep-rival .result) (keep .keep-rival .last .0))
+    (gathered (keep .keep-rival .result) (keep .keep-rival .last .0))
     (rw (met decided, decided .before .flow-of .ensures) at (keep .keep-rival .ensures))
 
 pub meet-spec : {M : Type 1} → statement M

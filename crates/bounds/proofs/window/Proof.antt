@@ -13,8 +13,8 @@ known c = asked-done _ _ _ (sym (c .before .before .ask .ensures) ∙ c .enum-to
 read-trailer-requires : tie.Need-read-trailer-requires
 read-trailer-requires c κs = done-trailed _ _ (known c .done) .long
 
-window-found-requires : tie.Need-window-found-requires
-window-found-requires c κs = known-flow _ _ _ (known (c .before)) (c .read-trailer .ensures)
+window-of-requires : tie.Need-window-of-requires
+window-of-requires c κs = known-flow _ _ _ (known (c .before)) (c .read-trailer .ensures)
 
 returns : tie.Need-returns
 unfolding windowAnswer
@@ -23,16 +23,16 @@ returns c = sym (asked-refused _ _ _ _ _ (sym (c .before .before .before .ask .e
 returns-2 : tie.Need-returns-2
 unfolding windowAnswer
 returns-2 c =
-    rw (← (c .before .before .before .window-found .ensures), c .before .least .given .1)
+    rw (← (c .before .before .before .window-of .ensures), c .before .least .given .1)
     (sym (known (c .before .before .before .before .before) .answers _))
 
 returns-3 : tie.Need-returns-3
 unfolding windowAnswer
 returns-3 c =
-    rw (← (c .before .before .window-found .ensures), c .enum-told2 .given .1)
+    rw (← (c .before .before .window-of .ensures), c .enum-told2 .given .1)
     (sym (known (c .before .before .before .before) .answers _))
 
 pub window-spec : {M : Type 1} → statement M
 window-spec =
-    tie.close (tie.spec (λ c κs. search needs) (λ c. search needs) (λ c. search needs) read-trailer-requires window-found-requires
+    tie.close (tie.spec (λ c κs. search needs) (λ c. search needs) (λ c. search needs) read-trailer-requires window-of-requires
     (λ c. search needs) (λ c. search needs) returns returns-2 returns-3)

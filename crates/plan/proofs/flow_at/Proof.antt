@@ -13,7 +13,7 @@ returns c =
       ys = row .before .before .wide2 .ensures .0 j;
       xd = row .wide3 .ensures .0 j;
       yd = c .before .before .before .wide4 .ensures .0 j;
-      period = c .before .before .two-bytes .ensures .0 j;
+      period = c .before .before .little-endian2 .ensures .0 j;
       burst = c .wide5 .ensures .0 j;
     }
 

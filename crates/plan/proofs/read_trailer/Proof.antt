@@ -11,8 +11,8 @@ unfolding trailerOf littleEndian4
 returns c =
     let words = c .before .before .before .before in
     λ j. record {
-      start = words .before .before .two-bytes .ensures .0 j + 65536 * words .before .two-bytes2 .ensures .0 j;
-      count = words .two-bytes3 .ensures .0 j;
+      start = words .before .before .little-endian2 .ensures .0 j + 65536 * words .before .little-endian22 .ensures .0 j;
+      count = words .little-endian23 .ensures .0 j;
       sx = c .before .before .wide .ensures .0 j;
       sy = c .wide2 .ensures .0 j;
     }

@@ -24,12 +24,12 @@ lengthy c = search cases
 
 returns-3 : tie.Need-returns-3
 unfolding trailerNumber
-returns-3 c = rw (lengthy (c .before .before), told-not (c .before .is-tagged .ensures) (c .if3 .taken))
+returns-3 c = rw (lengthy (c .before .before), told-not (c .before .tagged .ensures) (c .if3 .taken))
 
 returns-4 : tie.Need-returns-4
 unfolding trailerNumber
 returns-4 c =
-    let tag = told-not′ (c .before .before .before .is-tagged .ensures) (c .before .before .if3 .left) in
+    let tag = told-not′ (c .before .before .before .tagged .ensures) (c .before .before .if3 .left) in
     rw (lengthy (c .before .before .before .before), tag, ← (c .before .read-trailer .ensures)) (c .header-number .ensures)
 
 pub trailer-number-spec : {M : Type 1} → statement M

@@ -31,22 +31,22 @@ put-row-requires c κs =
       record {
         period-least = rw (found .before .flow-of .ensures) (flow .period-least);
         period-most = rw (found .before .flow-of .ensures) (flow .period-most);
-        window-fits = λ T e. window-fits _ _ T (sym (found .window-found .ensures) ∙ e);
+        window-fits = λ T e. window-fits _ _ T (sym (found .window-of .ensures) ∙ e);
       },
       omega arith,
     )
 
 -- the row is the plan's line
 same : (c : tie.After-port) → let w = c .before .before in let a = w .before .before .before .before .args in
-    row (a .f) (w .before .flow-of .result) (c .port .result) (w .window-found .result) (c .before .flight-found .result)
+    row (a .f) (w .before .flow-of .result) (c .port .result) (w .window-of .result) (c .before .flight-bound-of .result)
     ≡ line (planOf (a .file .now)) (a .f)
 unfolding line
 same c =
     let w = c .before .before in
     rw (
       c .port .ensures,
-      c .before .flight-found .ensures,
-      w .window-found .ensures,
+      c .before .flight-bound-of .ensures,
+      w .window-of .ensures,
       w .before .flow-of .ensures,
       ← (opened-sx _ _ (w .before .before .before .before .pre .0 .opened)),
     )

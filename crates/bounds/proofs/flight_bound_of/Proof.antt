@@ -1,9 +1,9 @@
--- `flight_found`: the flight bound of the plan's flow.
+-- `flight_bound_of`: the flight bound of the plan's flow.
 use borrow.Author.Needs.{needs}
 use native.Mathlib.Omega.{arith}
 use Rattle.bounds.proofs.Opened.{flow-pair, opened-sx, opened-sy}
-use Rattle.bounds.proofs.flight_found.Statement.{statement}
-use Rattle.bounds.proofs.flight_found.Tie as tie
+use Rattle.bounds.proofs.flight_bound_of.Statement.{statement}
+use Rattle.bounds.proofs.flight_bound_of.Tie as tie
 
 flight-bound-requires : tie.Need-flight-bound-requires
 flight-bound-requires c κs =
@@ -16,5 +16,5 @@ returns c =
     let o = c .before .before .before .pre .opened in
     rw (opened-sx _ _ o, opened-sy _ _ o, ← (c .before .flow-of .ensures)) (c .flight-bound .ensures)
 
-pub flight-found-spec : {M : Type 1} → statement M
-flight-found-spec = tie.close (tie.spec (λ c κs. search needs) flight-bound-requires returns)
+pub flight-bound-of-spec : {M : Type 1} → statement M
+flight-bound-of-spec = tie.close (tie.spec (λ c κs. search needs) flight-bound-requires returns)
