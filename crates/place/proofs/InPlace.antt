@@ -10,7 +10,8 @@ use Rattle.flow.specs.declared.Flow.{Flow}
 use Rattle.flow.specs.Offsets.{ΔX}
 use Rattle.flow.specs.Plan.{mostSize}
 use Rattle.place.specs.Place.{Place, W, N}
-use Rattle.place.specs.InPlace.{OnColumn, inPlace}
+use Rattle.place.specs.InPlace.{inPlace}
+use Rattle.place.specs.Inner.{OnColumn}
 
 -- ΔX and D×Sx for at most 16 deflections
 pub small : (sx sy : ℕ) (f : Flow) (x d : ℕ) → OnColumn sx sy f x → d ≤ mostSize → (ΔX sx f < mostSize) × (d * sx ≤ mostSize * mostSize)

@@ -1,18 +1,11 @@
 -- Where a packet can be: what 01 asks of a register's packet in words that form a state (01, State memory).
 use mathlib.Core.Bool.{Bool, cond, _&&_}
-use Prim.Native.Nat.{ℕ, _+_, _-_, _*_, _≤_, _<_}
+use Prim.Native.Nat.{ℕ, _+_, _-_, _*_}
 use lib.Dec.{leb, eqb}
 use Rattle.torus.specs.Axis.{offset, lap}
 use Rattle.flow.specs.declared.Flow.{Flow}
 use Rattle.flow.specs.Offsets.{ΔX, ΔY}
-use Rattle.flow.specs.Plan.{FlowOk, mostSize}
 use Rattle.place.specs.Place.{Place, W, N}
-
--- a flow and a column of a torus in 01's ranges
-pub record OnColumn (sx sy : ℕ) (f : Flow) (x : ℕ) : Type 0 where
-  pub flow-ok : FlowOk sx sy f
-  pub sx-most : sx ≤ mostSize
-  pub x-on : x < sx
 
 -- r = (row − ys) mod Sy
 abbrev pub rowsDone : ℕ → Flow → ℕ → ℕ

@@ -3,7 +3,8 @@ use flow::Flow;
 ghost use mathlib.Core.Path.{_≡_};
 ghost use Prim.Native.Nat.{_≤_, _<_};
 ghost use Rattle.flow.specs.Plan.{FlowOk, mostSize};
-ghost use Rattle.place.specs.InPlace.{OnColumn, inNorth, inFirstRow, inLaterRow, inPlace};
+ghost use Rattle.place.specs.InPlace.{inNorth, inFirstRow, inLaterRow, inPlace};
+ghost use Rattle.place.specs.Inner.{OnColumn};
 ghost use Rattle.place.specs.Input.{placeOf};
 
 // The input of a router that a link register feeds.

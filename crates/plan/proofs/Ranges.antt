@@ -10,7 +10,7 @@ use lib.ListN.{length, getD}
 use Rattle.laws.proofs.Bounded.{length-tabulate, getD-tabulate}
 use Rattle.laws.proofs.Cases.{or-false, passed}
 use Rattle.flow.specs.declared.Flow.{Flow}
-use Rattle.flow.proofs.Plan.{OnTorus, on-torus-facts}
+use Rattle.flow.proofs.Plan.{FlowOn, on-torus-facts}
 use Rattle.flow.specs.Plan.{FlowOk, PlanOk, flowAt, noFlow, onTorus}
 use Rattle.plan.specs.declared.Answer.the-variants.{Done}
 use Rattle.plan.specs.Bytes.{littleEndian2}
@@ -25,7 +25,7 @@ Bytes file = (i : ℕ) → getD file i 0 < 256
 
 -- a record that is not refused: its numbers are in range, and its last byte is 0
 pub record RecordOk (sx sy : ℕ) (f : Flow) (last : ℕ) : Type 0 where
-  pub on-torus : OnTorus sx sy f
+  pub on-torus : FlowOn sx sy f
   pub period-least : 1 ≤ f .period
   pub burst-least : 1 ≤ f .burst
   pub last-zero : last ≡ 0

@@ -5,7 +5,8 @@ use borrow.Author.Tests.{le-leb, eq-eqb, ne-eqb}
 use native.Mathlib.Omega.{arith}
 use Rattle.torus.proofs.Axis.{offset-below}
 use Rattle.flow.specs.Plan.{mostSize}
-use Rattle.place.specs.InPlace.{OnColumn, inPlace}
+use Rattle.place.specs.InPlace.{inPlace}
+use Rattle.place.specs.Inner.{OnColumn}
 use Rattle.place.proofs.InPlace.{too-early}
 use Rattle.place.proofs.in_place.Statement.{statement}
 use Rattle.place.proofs.in_place.Tie as tie
