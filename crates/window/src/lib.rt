@@ -28,7 +28,7 @@ pub enum Conflict {
     Spread(u32),
 }
 
-// What a search finds: the window T, or none.
+// The window T of a flow, or that there is none.
 pub enum Found {
     At(u32),
     Nothing,
