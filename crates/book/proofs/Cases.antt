@@ -8,10 +8,10 @@ use Rattle.laws.specs.Bounded as Bounded
 use Rattle.torus.specs.Axis as Axis
 use Rattle.bucket.specs.Regulator as Regulator
 use Rattle.bucket.specs.Curve as Curve
-use Rattle.window.specs.declared.Found.the-variants.{Nothing}
+use Rattle.window.specs.declared.Window.the-variants.{Nothing}
 use Rattle.window.specs.Conflict as Conflict
 use Rattle.window.specs.Window as Window
-use Rattle.window.proofs.Window.{window-none}
+use Rattle.window.proofs.Windows.{window-none}
 use Rattle.book.specs.Cycle.{westTurns, sent, ready, enters, lowest, deliveries}
 use Rattle.book.specs.Calls.{refusal, feed}
 use Rattle.book.specs.Cases.{starred, across, AllHold}

@@ -6,8 +6,8 @@ use Rattle.flow.specs.declared.Flow.{Flow}
 use Rattle.flow.specs.Offsets.{ΔX, ΔY}
 use Rattle.flow.specs.Plan.{Plan, flowAt}
 use Rattle.window.specs.declared.Conflict.the-variants.{Spread}
-use Rattle.window.specs.declared.Found.{Found}
-use Rattle.window.specs.declared.Found.the-variants.{At, Nothing}
+use Rattle.window.specs.declared.Window.{Window}
+use Rattle.window.specs.declared.Window.the-variants.{At, Nothing}
 use Rattle.window.specs.Conflict.{conflict}
 use Rattle.window.specs.Window.{windowOf}
 use Rattle.window.specs.Flight.{flightOf, flightBound}
@@ -46,7 +46,7 @@ pub data Case : Type 0 where
   -- the spread of flow 1 at the source of flow 0
   spread : Plan → ℕ → Case
   -- the window of flow 0
-  window : Plan → Found → Case
+  window : Plan → Window → Case
   -- what a list of calls delivers, and its flights
   delivers : Plan → List Call → List Delivery → List ℕ → Case
   -- the tokens of flow 0 after a list of calls

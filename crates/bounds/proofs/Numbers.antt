@@ -11,10 +11,10 @@ use Rattle.plan.specs.declared.Answer.{Answer}
 use Rattle.plan.specs.declared.Answer.the-variants.{Done, Refused}
 use Rattle.plan.specs.declared.Trailer.{Trailer}
 use Rattle.plan.specs.Refusals as Refusals
-use Rattle.plan.specs.Refusals.{answerOf, orElse, sizeOk, headerNumber, trailerNumber, recordNumber, flowNumber, firstRefused, recordsAnswer, planAnswer}
+use Rattle.plan.specs.Refusals.{answerBy, orElse, sizeOk, headerNumber, trailerNumber, recordNumber, flowNumber, firstRefused, recordsAnswer, planAnswer}
 use Rattle.plan.specs.Layout.{mostFile, recordSize, trailerSize, tagged, trailerOf, planOf}
-use Rattle.window.specs.declared.Found.{Found}
-use Rattle.window.specs.declared.Found.the-variants.{At, Nothing}
+use Rattle.window.specs.declared.Window.{Window}
+use Rattle.window.specs.declared.Window.the-variants.{At, Nothing}
 use Rattle.window.specs.Window.{windowOf}
 use Rattle.bounds.specs.Calls.{asked, windowBy, windowAnswer}
 use Rattle.bounds.specs.Inner.{NumberMost}
@@ -23,7 +23,7 @@ or-else-most : (m : ℕ) (a b : Answer) → NumberMost m a → NumberMost m b �
 or-else-most m (Done v) b h k = k
 or-else-most m (Refused n place) b h k = h
 
-answer-most : (m n place : ℕ) → n ≤ m → NumberMost m (answerOf n place)
+answer-most : (m n place : ℕ) → n ≤ m → NumberMost m (answerBy n place)
 answer-most m zero place h = tt
 answer-most m (suc n) place h = h
 
@@ -54,13 +54,13 @@ first-most : (number : ℕ → ℕ) (m : ℕ) → ((i : ℕ) → number i ≤ m)
 unfolding Refusals.firstRefused
 first-most number m h zero = tt
 first-most number m h (suc n) =
-    or-else-most m (firstRefused number n) (answerOf (number n) n) (first-most number m h n) (answer-most m (number n) n (h n))
+    or-else-most m (firstRefused number n) (answerBy (number n) n) (first-most number m h n) (answer-most m (number n) n (h n))
 
 -- a plan's refusals are 1 to 7
 pub plan-most : (file : List ℕ) → NumberMost 7 (planAnswer file)
 unfolding Refusals.planAnswer Refusals.flowNumber
 plan-most file =
-    or-else-most 7 (answerOf (trailerNumber file) 0) (recordsAnswer file (trailerOf file)) (answer-most 7 (trailerNumber file) 0 (trailer-most file))
+    or-else-most 7 (answerBy (trailerNumber file) 0) (recordsAnswer file (trailerOf file)) (answer-most 7 (trailerNumber file) 0 (trailer-most file))
     (first-most (flowNumber file (trailerOf file)) 7 (λ f. record-most _ _ _ _) ((trailerOf file) .count))
 
 -- no call on a flow adds a larger number than its own
@@ -85,6 +85,6 @@ pub window-most : (file : List ℕ) (f : ℕ) → NumberMost 14 (windowAnswer fi
 unfolding windowAnswer
 window-most file f = asked-most file f 14 _ (omega arith) (found (windowOf (planOf file) f))
   where
-    found : (w : Found) → NumberMost 14 (windowBy f w)
+    found : (w : Window) → NumberMost 14 (windowBy f w)
     found (At T) = tt
     found Nothing = omega arith

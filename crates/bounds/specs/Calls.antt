@@ -9,8 +9,8 @@ use Rattle.plan.specs.declared.Answer.{Answer}
 use Rattle.plan.specs.declared.Answer.the-variants.{Done, Refused}
 use Rattle.plan.specs.Layout.{planOf}
 use Rattle.plan.specs.Refusals.{orElse, planAnswer}
-use Rattle.window.specs.declared.Found.{Found}
-use Rattle.window.specs.declared.Found.the-variants.{At, Nothing}
+use Rattle.window.specs.declared.Window.{Window}
+use Rattle.window.specs.declared.Window.the-variants.{At, Nothing}
 use Rattle.window.specs.Window.{windowOf}
 use Rattle.window.specs.Flight.{flightBound}
 
@@ -19,7 +19,7 @@ unfoldable pub asked : List ℕ → ℕ → Answer → Answer
 asked file f answer = orElse (planAnswer file) (cond (ltb f (length (planOf file .flows))) answer (Refused 12 0))
 
 -- T, or 14: no window T, with the flow as place
-abbrev pub windowBy : ℕ → Found → Answer
+abbrev pub windowBy : ℕ → Window → Answer
 windowBy f (At T) = Done T
 windowBy f Nothing = Refused 14 f
 
@@ -32,5 +32,5 @@ abbrev pub flightBoundOf : Plan → ℕ → ℕ
 flightBoundOf p f = flightBound (p .sx) (p .sy) (flowAt p f)
 
 -- flight bound: plan, 12
-unfoldable pub flightAnswer : List ℕ → ℕ → Answer
-flightAnswer file f = asked file f (Done (flightBoundOf (planOf file) f))
+unfoldable pub flightBoundAnswer : List ℕ → ℕ → Answer
+flightBoundAnswer file f = asked file f (Done (flightBoundOf (planOf file) f))

@@ -15,7 +15,7 @@ use Rattle.flow.specs.Plan.{FlowOk, PlanOk, flowAt, noFlow, onTorus}
 use Rattle.plan.specs.declared.Answer.the-variants.{Done}
 use Rattle.plan.specs.Bytes.{littleEndian2}
 use Rattle.plan.specs.Layout.{trailerOf, flowFrom, lastAt, recordAt, planOf}
-use Rattle.plan.specs.Refusals.{recordNumber, flowNumber, trailerNumber, answerOf, recordsAnswer, planAnswer}
+use Rattle.plan.specs.Refusals.{recordNumber, flowNumber, trailerNumber, answerBy, recordsAnswer, planAnswer}
 use Rattle.plan.proofs.Refusals.{or-else-done, first-done}
 use Rattle.plan.proofs.Accepted.{done-trailed}
 
@@ -52,7 +52,7 @@ pub done-records : (file : List ℕ) (v : ℕ) → planAnswer file ≡ Done v
     → let t = trailerOf file in RecordOk (t .sx) (t .sy) (flowFrom file (recordAt t f)) (lastAt file (recordAt t f))
 unfolding planAnswer flowNumber
 done-records file v e f l =
-    let parts = or-else-done (answerOf (trailerNumber file) 0) (recordsAnswer file (trailerOf file)) v e in
+    let parts = or-else-done (answerBy (trailerNumber file) 0) (recordsAnswer file (trailerOf file)) v e in
     record-ok _ _ _ _ (first-done (flowNumber file (trailerOf file)) ((trailerOf file) .count) v (parts .2) f l)
 
 module _ (file : List ℕ) (v : ℕ) (e : planAnswer file ≡ Done v) where

@@ -48,7 +48,7 @@ fn little_endian2(file: &[u8], at: usize) -> u32
     wide(file[at]) + 256 * wide(file[at + 1])
 }
 
-pub fn read_trailer(file: &[u8]) -> Trailer
+pub fn trailer_of(file: &[u8]) -> Trailer
     requires { ⌜ trailerSize ≤ length (now file) ⌝ }
     ensures { λ r. ⌜ r ≡ trailerOf (now (file .entry)) ⌝ }
 {
@@ -64,7 +64,7 @@ pub fn read_trailer(file: &[u8]) -> Trailer
 }
 
 // The six plan numbers of the record at a place.
-pub fn flow_at(file: &[u8], at: usize) -> Flow
+pub fn flow_from(file: &[u8], at: usize) -> Flow
     requires { ⌜ at + recordSize ≤ length (now file) ⌝ }
     ensures { λ r. ⌜ r ≡ flowFrom (now (file .entry)) at ⌝ }
 {
@@ -140,7 +140,7 @@ fn trailer_number(file: &[u8]) -> u32
     if !tagged(file) {
         return 2;
     }
-    header_number(read_trailer(file), length)
+    header_number(trailer_of(file), length)
 }
 
 // The record's last byte.
@@ -180,7 +180,7 @@ fn records_answer(file: &[u8], t: Trailer) -> Answer
     let count = t.count;
     for f in 0..count {
         let at = start + RECORD_SIZE * (f as usize);
-        let number = record_number(t.sx, t.sy, flow_at(file, at), last_at(file, at));
+        let number = record_number(t.sx, t.sy, flow_from(file, at), last_at(file, at));
         if number != 0 {
             return Answer::Refused { number, place: f };
         }
@@ -189,23 +189,23 @@ fn records_answer(file: &[u8], t: Trailer) -> Answer
 }
 
 // Reading a plan file: 0, or the refusal with its place.
-pub fn answer_of(file: &[u8]) -> Answer
+pub fn plan_answer(file: &[u8]) -> Answer
     ensures { λ r. ⌜ r ≡ planAnswer (now (file .entry)) ⌝ }
 {
     let number = trailer_number(file);
     if number != 0 {
         return Answer::Refused { number, place: 0 };
     }
-    records_answer(file, read_trailer(file))
+    records_answer(file, trailer_of(file))
 }
 
 // The notes of a plan file as the leading part of the file; on a refusal that part is empty.
 pub fn notes(file: &[u8]) -> &[u8]
     ensures { λ r. ⌜ now r ≡ notesOf (now (file .entry)) ⌝ }
 {
-    match answer_of(file) {
+    match plan_answer(file) {
         Answer::Done(_) => {
-            let start = read_trailer(file).start as usize;
+            let start = trailer_of(file).start as usize;
             &file[..start]
         }
         Answer::Refused {

@@ -3,8 +3,8 @@ use mathlib.Core.Path.{_≡_}
 use Prim.Native.Nat.{ℕ, _≤_}
 use Rattle.flow.specs.declared.Flow.{Flow}
 use Rattle.flow.specs.Plan.{mostPeriod}
-use Rattle.window.specs.declared.Found.{Found}
-use Rattle.window.specs.declared.Found.the-variants.{At}
+use Rattle.window.specs.declared.Window.{Window}
+use Rattle.window.specs.declared.Window.the-variants.{At}
 use Rattle.window.specs.Window.{mostWindow}
 
 -- the digits of a 32-bit number
@@ -23,7 +23,7 @@ abbrev pub mostTable : ℕ
 mostTable = 16448
 
 -- P is 1..65,535, and so is T if there is one
-pub record WaitFits (f : Flow) (window : Found) : Type 0 where
+pub record WaitFits (f : Flow) (window : Window) : Type 0 where
   pub period-least : 1 ≤ f .period
   pub period-most : f .period ≤ mostPeriod
   pub window-fits : (T : ℕ) → window ≡ At T → (1 ≤ T) × (T ≤ mostWindow)

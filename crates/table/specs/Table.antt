@@ -11,8 +11,8 @@ use Rattle.plan.specs.declared.Answer.{Answer}
 use Rattle.plan.specs.declared.Answer.the-variants.{Done, Refused}
 use Rattle.plan.specs.Layout.{planOf}
 use Rattle.plan.specs.Refusals.{planAnswer}
-use Rattle.window.specs.declared.Found.{Found}
-use Rattle.window.specs.declared.Found.the-variants.{At, Nothing}
+use Rattle.window.specs.declared.Window.{Window}
+use Rattle.window.specs.declared.Window.the-variants.{At, Nothing}
 use Rattle.window.specs.Window.{windowOf, loneWait}
 use Rattle.window.specs.Flight.{flightBound}
 use Rattle.table.specs.Decimal.{decimal}
@@ -35,17 +35,17 @@ portField East = 32 ∷ 69 ∷ []
 portField South = 32 ∷ 83 ∷ []
 
 -- T, or `-` on 14
-abbrev pub windowField : Found → List ℕ
+abbrev pub windowField : Window → List ℕ
 windowField (At T) = field T
 windowField Nothing = noField
 
 -- the lone wait, or `-` on 14
-abbrev pub waitField : Flow → Found → List ℕ
+abbrev pub waitField : Flow → Window → List ℕ
 waitField f (At T) = field (loneWait f T)
 waitField f Nothing = noField
 
 -- number, port, T, flight bound, lone wait
-unfoldable pub row : ℕ → Flow → Port → Found → ℕ → List ℕ
+unfoldable pub row : ℕ → Flow → Port → Window → ℕ → List ℕ
 row f flow port window flight = decimal f ++ portField port ++ windowField window ++ field flight ++ waitField flow window ++ newline
 
 -- the line of flow number f

@@ -3,7 +3,7 @@ use flow::Flow;
 use flow::Port;
 use plan::Answer;
 use plan::Trailer;
-use window::Found;
+use window::Window;
 ghost use mathlib.Core.Path.{_≡_};
 ghost use mathlib.Core.List.{_∷_, []};
 ghost use Prim.Native.Nat.{_+_, _*_, _<_, _≤_};
@@ -63,26 +63,26 @@ fn put_none(out: &mut [u8], at: usize) -> usize
 }
 
 // T, or `-` where there is no window.
-fn put_window(out: &mut [u8], at: usize, window: Found) -> usize
+fn put_window(out: &mut [u8], at: usize, window: Window) -> usize
     requires { ⌜ at + mostField ≤ length (now out) ⌝ }
     ensures { λ r. ⌜ Wrote (now (out .entry)) at (windowField window) r (now (out .exit)) ⌝ }
     ensures { λ r. ⌜ r ≤ at + mostField ⌝ }
 {
     match window {
-        Found::At(least) => put_field(out, at, least),
-        Found::Nothing => put_none(out, at),
+        Window::At(least) => put_field(out, at, least),
+        Window::Nothing => put_none(out, at),
     }
 }
 
 // The lone wait, or `-` where there is no window.
-fn put_wait(out: &mut [u8], at: usize, flow: Flow, window: Found) -> usize
+fn put_wait(out: &mut [u8], at: usize, flow: Flow, window: Window) -> usize
     requires { ⌜ (WaitFits flow window) × (at + mostField ≤ length (now out)) ⌝ }
     ensures { λ r. ⌜ Wrote (now (out .entry)) at (waitField flow window) r (now (out .exit)) ⌝ }
     ensures { λ r. ⌜ r ≤ at + mostField ⌝ }
 {
     match window {
-        Found::At(least) => put_field(out, at, window::lone_wait(flow, least)),
-        Found::Nothing => put_none(out, at),
+        Window::At(least) => put_field(out, at, window::lone_wait(flow, least)),
+        Window::Nothing => put_none(out, at),
     }
 }
 
@@ -103,7 +103,7 @@ fn put_row(
     f: u32,
     flow: Flow,
     port: Port,
-    window: Found,
+    window: Window,
     flight: u32,
 ) -> usize
     requires { ⌜ (WaitFits flow window) × (at + mostLine ≤ length (now out)) ⌝ }
@@ -124,7 +124,7 @@ fn put_line(file: &[u8], t: Trailer, f: u32, out: &mut [u8], at: usize) -> usize
     ensures { λ r. ⌜ Wrote (now (out .entry)) at (line (planOf (now (file .entry))) f) r (now (out .exit)) ⌝ }
     ensures { λ r. ⌜ r ≤ at + mostLine ⌝ }
 {
-    let flow = bounds::flow_of(file, t, f);
+    let flow = bounds::flow_at(file, t, f);
     let window = bounds::window_of(file, t, f);
     let flight = bounds::flight_bound_of(file, t, f);
     let port = flow.port(t.sx);
@@ -162,11 +162,11 @@ pub fn write(file: &[u8], out: &mut [u8]) -> usize
     ensures { λ r. ⌜ Wrote (now (out .entry)) 0 (tableOf (now (file .entry))) r (now (out .exit)) ⌝ }
     ensures { λ r. ⌜ r ≤ mostTable ⌝ }
 {
-    match plan::answer_of(file) {
+    match plan::plan_answer(file) {
         Answer::Refused { number, place } => put_refused(out, 0, number, place),
         Answer::Done(_) => {
             let next = put_text(out, 0, b"flow port window flight wait\n");
-            put_lines(file, plan::read_trailer(file), out, next)
+            put_lines(file, plan::trailer_of(file), out, next)
         }
     }
 }

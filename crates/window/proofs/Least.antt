@@ -8,7 +8,7 @@ use native.Mathlib.Omega.{arith}
 use borrow.Author.Tests.{ltb-true, ltb-false, lt-ltb, le-ltb}
 use lib.Dec.{ltb}
 use Rattle.laws.proofs.Cases.{test}
-use Rattle.window.specs.declared.Found.the-variants.{At, Nothing}
+use Rattle.window.specs.declared.Window.the-variants.{At, Nothing}
 use Rattle.window.specs.Window.{leastFrom}
 
 -- no number from s on and below t is a window

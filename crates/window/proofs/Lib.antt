@@ -1,7 +1,7 @@
 -- The laws of windows.
 pub mod Spread
 pub mod Least
-pub mod Window
+pub mod Windows
 pub mod Rivals
 pub mod Rates
 pub mod Gathered

@@ -9,8 +9,8 @@ use Rattle.flow.specs.Plan.{Plan, flowAt}
 use Rattle.bucket.specs.Curve.{curve}
 use Rattle.window.specs.declared.Conflict.{Conflict}
 use Rattle.window.specs.declared.Conflict.the-variants.{Free, Spread}
-use Rattle.window.specs.declared.Found.{Found}
-use Rattle.window.specs.declared.Found.the-variants.{At, Nothing}
+use Rattle.window.specs.declared.Window.{Window}
+use Rattle.window.specs.declared.Window.the-variants.{At, Nothing}
 use Rattle.window.specs.Conflict.{conflict}
 
 -- what g adds to I(t): σ + ⌊(t−1+J)/P⌋ if it conflicts with spread J
@@ -31,12 +31,12 @@ abbrev pub mostWindow : ℕ
 mostWindow = 65535
 
 -- the least t of the n numbers from t on with I t < t
-unfoldable pub leastFrom : (ℕ → ℕ) → ℕ → ℕ → Found
+unfoldable pub leastFrom : (ℕ → ℕ) → ℕ → ℕ → Window
 leastFrom I zero t = Nothing
 leastFrom I (suc n) t = let later = leastFrom I n (t + 1) in cond (ltb (I t) t) (At t) later
 
 -- T is the least window t from 1 to 65,535 with I(t) < t
-unfoldable pub windowOf : Plan → ℕ → Found
+unfoldable pub windowOf : Plan → ℕ → Window
 windowOf p f = leastFrom (interference p f) mostWindow 1
 
 -- a lone packet waits at most P + T − 2

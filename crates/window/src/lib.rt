@@ -29,7 +29,7 @@ pub enum Conflict {
 }
 
 // The window T of a flow, or that there is none.
-pub enum Found {
+pub enum Window {
     At(u32),
     Nothing,
 }
@@ -132,30 +132,30 @@ fn fill_link(rivals: &[u32], n: usize) -> bool
 }
 
 // The search for the least window. Where the rivals leave none at t, none is left up to their demand.
-fn search(rivals: &[u32], n: usize) -> Found
+fn search(rivals: &[u32], n: usize) -> Window
     requires { ⌜ Rivals (now rivals) n ⌝ }
     ensures { λ r. ⌜ r ≡ leastFrom (demandOf (now (rivals .entry)) n) mostWindow 1 ⌝ }
 {
     let mut t = 1u32;
     loop {
         if MOST_WINDOW < t {
-            break Found::Nothing;
+            break Window::Nothing;
         }
         let d = demand_of(rivals, n, t);
         if d < t {
-            break Found::At(t);
+            break Window::At(t);
         }
         t = d + 1;
     }
 }
 
 // The least window that the n rivals leave. Where their rates fill the link there is none.
-pub fn least_window(rivals: &[u32], n: usize) -> Found
+pub fn least_window(rivals: &[u32], n: usize) -> Window
     requires { ⌜ Rivals (now rivals) n ⌝ }
     ensures { λ r. ⌜ r ≡ leastFrom (demandOf (now (rivals .entry)) n) mostWindow 1 ⌝ }
 {
     if fill_link(rivals, n) {
-        return Found::Nothing;
+        return Window::Nothing;
     }
     search(rivals, n)
 }

@@ -14,12 +14,12 @@ use Rattle.bounds.proofs.ask.Tie as tie
 
 -- reading accepts the file
 done : (c : tie.After-enum-told) → planAnswer (c .before .before .before .before .args .file .now) ≡ Done (c .enum-told .given .0 .0)
-done c = sym (c .before .before .answer-of .ensures) ∙ c .enum-told .given .1
+done c = sym (c .before .before .plan-answer .ensures) ∙ c .enum-told .given .1
 
 -- the count that the trailer has is the plan's
-count : (c : tie.After-read-trailer) → let file = c .before .before .before .before .before .args .file .now in
-    length (planOf file .flows) ≡ c .read-trailer .result .count
-count c = rw (c .read-trailer .ensures) (plan-count _ _ (done (c .before)))
+count : (c : tie.After-trailer-of) → let file = c .before .before .before .before .before .args .file .now in
+    length (planOf file .flows) ≡ c .trailer-of .result .count
+count c = rw (c .trailer-of .ensures) (plan-count _ _ (done (c .before)))
 
 returns : tie.Need-returns
 unfolding asked
@@ -27,7 +27,7 @@ returns c = rw (done (c .before .before), count (c .before), le-ltb _ _ (c .if1 
 
 returns-2 : tie.Need-returns-2
 unfolding asked
-returns-2 c = rw (← (c .before .before .before .answer-of .ensures), c .before .number .given .1)
+returns-2 c = rw (← (c .before .before .before .plan-answer .ensures), c .before .number .given .1)
 
 returns-3 : tie.Need-returns-3
 unfolding asked

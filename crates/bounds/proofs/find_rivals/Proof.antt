@@ -25,7 +25,7 @@ loop-holds c =
 meet-requires : tie.Need-meet-requires Inv-loop μ-loop
 meet-requires c κs =
     let k = c .before .before .before .before .before .before .pre .0 in
-    ((k, record { opened = k .opened; below = c .before .loop-test .taken }), (c .before .before .before .flow-of .ensures, c .before .before .loop .inv .1 .1))
+    ((k, record { opened = k .opened; below = c .before .loop-test .taken }), (c .before .before .before .flow-at .ensures, c .before .before .loop .inv .1 .1))
 
 loop-again : tie.Need-loop-again Inv-loop μ-loop
 loop-again c =

@@ -9,12 +9,12 @@ flight-bound-requires : tie.Need-flight-bound-requires
 flight-bound-requires c κs =
     let p = c .before .before .pre in
     let pair = flow-pair _ _ _ p (λ i. omega (arith, c .before .shared-slice-known .given i)) _ p in
-    (rw (c .flow-of .ensures) (pair .own), (pair .sx-most, pair .sy-most))
+    (rw (c .flow-at .ensures) (pair .own), (pair .sx-most, pair .sy-most))
 
 returns : tie.Need-returns
 returns c =
     let o = c .before .before .before .pre .opened in
-    rw (opened-sx _ _ o, opened-sy _ _ o, ← (c .before .flow-of .ensures)) (c .flight-bound .ensures)
+    rw (opened-sx _ _ o, opened-sy _ _ o, ← (c .before .flow-at .ensures)) (c .flight-bound .ensures)
 
 pub flight-bound-of-spec : {M : Type 1} → statement M
 flight-bound-of-spec = tie.close (tie.spec (λ c κs. search needs) flight-bound-requires returns)

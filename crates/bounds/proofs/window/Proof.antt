@@ -10,11 +10,11 @@ use Rattle.bounds.proofs.window.Tie as tie
 known : (c : tie.After-enum-told) → let s = c .before .before .before .before in Known (s .args .file .now) (s .args .f)
 known c = asked-done _ _ _ (sym (c .before .before .ask .ensures) ∙ c .enum-told .given .1)
 
-read-trailer-requires : tie.Need-read-trailer-requires
-read-trailer-requires c κs = done-trailed _ _ (known c .done) .long
+trailer-of-requires : tie.Need-trailer-of-requires
+trailer-of-requires c κs = done-trailed _ _ (known c .done) .long
 
 window-of-requires : tie.Need-window-of-requires
-window-of-requires c κs = known-flow _ _ _ (known (c .before)) (c .read-trailer .ensures)
+window-of-requires c κs = known-flow _ _ _ (known (c .before)) (c .trailer-of .ensures)
 
 returns : tie.Need-returns
 unfolding windowAnswer
@@ -34,5 +34,5 @@ returns-3 c =
 
 pub window-spec : {M : Type 1} → statement M
 window-spec =
-    tie.close (tie.spec (λ c κs. search needs) (λ c. search needs) (λ c. search needs) read-trailer-requires window-of-requires
+    tie.close (tie.spec (λ c κs. search needs) (λ c. search needs) (λ c. search needs) trailer-of-requires window-of-requires
     (λ c. search needs) (λ c. search needs) returns returns-2 returns-3)

@@ -19,7 +19,7 @@ abbrev μ-loop : tie.MeasureT-loop
 found : (c : tie.After-record-number Inv-loop μ-loop) → let l = c .before .before .before .before in let a = l .before .before .before .args in
     c .record-number .result ≡ flowNumber (a .file .now) (a .t) (l .loop .f)
 unfolding flowNumber
-found c = rw (← (c .before .before .flow-at .ensures), ← (c .before .last-at .ensures)) (c .record-number .ensures)
+found c = rw (← (c .before .before .flow-from .ensures), ← (c .before .last-at .ensures)) (c .record-number .ensures)
 
 returns : tie.Need-returns Inv-loop μ-loop
 returns c =

@@ -30,7 +30,7 @@ returns-4 : tie.Need-returns-4
 unfolding trailerNumber
 returns-4 c =
     let tag = told-not′ (c .before .before .before .tagged .ensures) (c .before .before .if3 .left) in
-    rw (lengthy (c .before .before .before .before), tag, ← (c .before .read-trailer .ensures)) (c .header-number .ensures)
+    rw (lengthy (c .before .before .before .before), tag, ← (c .before .trailer-of .ensures)) (c .header-number .ensures)
 
 pub trailer-number-spec : {M : Type 1} → statement M
 trailer-number-spec =

@@ -22,15 +22,15 @@ port-requires : tie.Need-port-requires
 port-requires c κs =
     let s = c .before .before .before .before in
     let flow = in-range s in
-    rw (c .before .before .flow-of .ensures, ← (opened-sx _ _ (s .before .pre .0 .opened))) (flow .xs-on, flow .xd-on)
+    rw (c .before .before .flow-at .ensures, ← (opened-sx _ _ (s .before .pre .0 .opened))) (flow .xs-on, flow .xd-on)
 
 put-row-requires : tie.Need-put-row-requires
 put-row-requires c κs =
     let found = c .before .before .before in
     let flow = in-range (found .before .before .before) in (
       record {
-        period-least = rw (found .before .flow-of .ensures) (flow .period-least);
-        period-most = rw (found .before .flow-of .ensures) (flow .period-most);
+        period-least = rw (found .before .flow-at .ensures) (flow .period-least);
+        period-most = rw (found .before .flow-at .ensures) (flow .period-most);
         window-fits = λ T e. window-fits _ _ T (sym (found .window-of .ensures) ∙ e);
       },
       omega arith,
@@ -38,7 +38,7 @@ put-row-requires c κs =
 
 -- the row is the plan's line
 same : (c : tie.After-port) → let w = c .before .before in let a = w .before .before .before .before .args in
-    row (a .f) (w .before .flow-of .result) (c .port .result) (w .window-of .result) (c .before .flight-bound-of .result)
+    row (a .f) (w .before .flow-at .result) (c .port .result) (w .window-of .result) (c .before .flight-bound-of .result)
     ≡ line (planOf (a .file .now)) (a .f)
 unfolding line
 same c =
@@ -47,7 +47,7 @@ same c =
       c .port .ensures,
       c .before .flight-bound-of .ensures,
       w .window-of .ensures,
-      w .before .flow-of .ensures,
+      w .before .flow-at .ensures,
       ← (opened-sx _ _ (w .before .before .before .before .pre .0 .opened)),
     )
 

@@ -14,14 +14,14 @@ use Rattle.table.proofs.write.Tie as tie
 
 -- reading accepts the file
 done : (c : tie.After-enum-told) → planAnswer (c .before .before .before .before .before .args .file .now) ≡ Done (c .enum-told .given .0 .0)
-done c = sym (c .before .before .answer-of .ensures) ∙ c .enum-told .given .1
+done c = sym (c .before .before .plan-answer .ensures) ∙ c .enum-told .given .1
 
 -- where it was told
-abbrev told : tie.After-read-trailer → tie.After-enum-told
+abbrev told : tie.After-trailer-of → tie.After-enum-told
 told c = c .before .before .before .before .before .before
 
-opened : (c : tie.After-read-trailer) → Opened (told c .before .before .before .before .before .args .file .now) (c .read-trailer .result)
-opened c = record { value = _; done = done (told c); trailer = c .read-trailer .ensures }
+opened : (c : tie.After-trailer-of) → Opened (told c .before .before .before .before .before .args .file .now) (c .trailer-of .result)
+opened c = record { value = _; done = done (told c); trailer = c .trailer-of .ensures }
 
 put-lines-requires : tie.Need-put-lines-requires
 put-lines-requires c κs =
@@ -35,7 +35,7 @@ unfolding tableOf
 returns c =
     let wrote = c .before .before .put-refused .ensures in
     let number = c .before .before .before .before .before in
-    (rw (← (number .before .before .answer-of .ensures), number .number .given .1) (wrote .0), omega (arith, wrote .1))
+    (rw (← (number .before .before .plan-answer .ensures), number .number .given .1) (wrote .0), omega (arith, wrote .1))
 
 returns-2 : tie.Need-returns-2
 unfolding tableOf

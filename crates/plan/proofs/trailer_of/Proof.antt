@@ -1,10 +1,10 @@
--- `read_trailer`: field by field, what the bytes' readers ensure.
+-- `trailer_of`: field by field, what the bytes' readers ensure.
 use borrow.Author.Needs.{needs}
 use Prim.Native.Nat.{_+_, _*_}
 use Rattle.plan.specs.Bytes.{littleEndian4}
 use Rattle.plan.specs.Layout.{trailerOf}
-use Rattle.plan.proofs.read_trailer.Statement.{statement}
-use Rattle.plan.proofs.read_trailer.Tie as tie
+use Rattle.plan.proofs.trailer_of.Statement.{statement}
+use Rattle.plan.proofs.trailer_of.Tie as tie
 
 returns : tie.Need-returns
 unfolding trailerOf littleEndian4
@@ -17,8 +17,8 @@ returns c =
       sy = c .wide2 .ensures .0 j;
     }
 
-pub read-trailer-spec : {M : Type 1} → statement M
-read-trailer-spec =
+pub trailer-of-spec : {M : Type 1} → statement M
+trailer-of-spec =
     tie.close (tie.spec (λ c. search needs) (λ c. search needs) (λ c. search needs) (λ c. search needs) (λ c. search needs)
     (λ c. search needs) (λ c. search needs) (λ c. search needs) (λ c. search needs) (λ c. search needs) (λ c. search needs)
     (λ c. search needs) (λ c. search needs) (λ c. search needs) returns)

@@ -1,8 +1,8 @@
--- `flow_at`: field by field, what the bytes' readers ensure.
+-- `flow_from`: field by field, what the bytes' readers ensure.
 use borrow.Author.Needs.{needs}
 use Rattle.plan.specs.Layout.{flowFrom}
-use Rattle.plan.proofs.flow_at.Statement.{statement}
-use Rattle.plan.proofs.flow_at.Tie as tie
+use Rattle.plan.proofs.flow_from.Statement.{statement}
+use Rattle.plan.proofs.flow_from.Tie as tie
 
 returns : tie.Need-returns
 unfolding flowFrom
@@ -17,8 +17,8 @@ returns c =
       burst = c .wide5 .ensures .0 j;
     }
 
-pub flow-at-spec : {M : Type 1} → statement M
-flow-at-spec =
+pub flow-from-spec : {M : Type 1} → statement M
+flow-from-spec =
     tie.close (tie.spec (λ c. search needs) (λ c. search needs) (λ c. search needs) (λ c. search needs) (λ c. search needs)
     (λ c. search needs) (λ c. search needs) (λ c. search needs) (λ c. search needs) (λ c. search needs) (λ c. search needs)
     (λ c. search needs) (λ c. search needs) (λ c. search needs) (λ c. search needs) (λ c. search needs) returns)
