@@ -1,24 +1,34 @@
 -- The starred cases of 01 hold of the definitions.
-use mathlib.Core.List.{List, [], _∷_, _++_, map}
-use mathlib.Core.Path.{refl}
+use mathlib.Core.Path.{_≡_, refl}
+use Prim.Native.Nat.{_+_, _-_}
+use native.Mathlib.Nat.{div-one}
+use native.Mathlib.Omega.{arith}
+use lib.ListN.{drop}
 use Rattle.laws.specs.Bounded as Bounded
 use Rattle.torus.specs.Axis as Axis
 use Rattle.flow.specs.Limits as Limits
 use Rattle.bucket.specs.Regulator as Regulator
-use Rattle.window.specs.Cases as Window
-use Rattle.window.proofs.Cases as Windows
+use Rattle.bucket.specs.Curve as Curve
+use Rattle.window.specs.declared.Window.the-variants.{Nothing}
+use Rattle.window.specs.Conflict as Conflict
+use Rattle.window.specs.Window as Window
+use Rattle.window.proofs.Windows.{window-none}
 use Rattle.book.specs.Cycle.{westTurns, sent, ready, enters, lowest, deliveries}
 use Rattle.book.specs.Calls.{refusal, feed}
-use Rattle.book.specs.Cases.{Case, bounds, starred, onCycle, AllHold}
+use Rattle.book.specs.Cases.{starred, across, AllHold}
 
--- the windows' rows, and more
-joined : (ws : List Window.Case) (cs : List Case) → Window.AllHold ws → AllHold cs → AllHold (map bounds ws ++ cs)
-joined [] cs w h = h
-joined (c ∷ ws) cs w h = (w .0, joined ws cs (w .1) h)
-
-on-cycle : AllHold onCycle
-unfolding Bounded.tabulate Bounded.anyBelow Axis.offset Axis.next Regulator.afterCount Regulator.afterCycle westTurns sent ready enters lowest deliveries refusal feed Limits.offerNumber Limits.stepNumber
-on-cycle = ((refl, refl), ((refl, refl), ((refl, refl), ((refl, refl), (refl, (refl, (refl, tt)))))))
+-- a rival in every cycle: I(t) is t
+filled : Window.windowOf (across 1 1) 0 ≡ Nothing
+unfolding Bounded.sumBelow Axis.offset Curve.curve Conflict.conflict Conflict.conflictEast Conflict.conflictSouth Window.share
+    Window.shareOf Window.interference
+filled = window-none (across 1 1) 0 (λ t l m. omega (arith, div-one (t - 1 + 0)))
 
 pub starred-hold : AllHold starred
-starred-hold = joined Window.starred onCycle Windows.starred-hold on-cycle
+unfolding Bounded.tabulate Bounded.anyBelow Bounded.sumBelow Axis.offset Axis.next Regulator.afterCount Regulator.afterCycle
+    Curve.curve Conflict.conflict Conflict.conflictEast Conflict.conflictSouth Window.share Window.shareOf Window.interference
+    Window.leastFrom Window.windowOf westTurns sent ready enters lowest deliveries refusal feed
+    Limits.offerNumber Limits.stepNumber
+starred-hold = (refl, (refl, ((refl, refl), ((refl, refl), (refl, (refl, ((refl, refl), (refl, ((refl, refl), later)))))))))
+  where
+    later : AllHold (drop 9 starred)
+    later = ((refl, refl), (refl, (refl, (filled, (refl, (refl, (refl, (refl, (refl, tt)))))))))

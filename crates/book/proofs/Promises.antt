@@ -12,9 +12,9 @@ use Rattle.laws.proofs.Cases.{and-true}
 use Rattle.laws.proofs.Count.{mem-count, count-find, count-mono}
 use Rattle.flow.specs.Plan.{Plan, flowAt, FlowOk, PlanOk}
 use Rattle.bucket.proofs.Regulator.{fits}
-use Rattle.window.specs.declared.Found.the-variants.{At}
+use Rattle.window.specs.declared.Window.the-variants.{At}
 use Rattle.window.specs.Window.{interference, windowOf}
-use Rattle.window.proofs.Window.{window-least}
+use Rattle.window.proofs.Windows.{window-least}
 use Rattle.book.specs.Line.{Stage, waiting, placed, left, Line, isWaiting, isLeft, entryOf}
 use Rattle.book.specs.Book.{Book, bucketAt, ofFlow, enteredOf}
 use Rattle.book.specs.Cycle.{Delivery, deliveryOf}

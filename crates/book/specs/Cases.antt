@@ -1,19 +1,24 @@
--- The starred cases of 01, as rows of one table (01, Cases on both sides): those on flights and windows, and those on the cycle.
-use mathlib.Core.List.{List, [], _∷_, _++_, map}
+-- The starred cases of 01, as rows of one table (01, Cases on both sides). All are 4 by 4.
+use mathlib.Core.List.{List, [], _∷_, map}
 use mathlib.Core.Path.{_≡_}
 use Prim.Native.Nat.{ℕ, zero, suc, _+_, _-_}
 use Rattle.flow.specs.declared.Flow.{Flow}
-use Rattle.flow.specs.Plan.{Plan}
-use Rattle.window.specs.Cases as Window
+use Rattle.flow.specs.Offsets.{ΔX, ΔY}
+use Rattle.flow.specs.Plan.{Plan, flowAt}
+use Rattle.window.specs.declared.Conflict.the-variants.{Spread}
+use Rattle.window.specs.declared.Window.{Window}
+use Rattle.window.specs.declared.Window.the-variants.{At, Nothing}
+use Rattle.window.specs.Conflict.{conflict}
+use Rattle.window.specs.Window.{windowOf}
+use Rattle.window.specs.Flight.{flightOf, flightBound}
 use Rattle.book.specs.Book.{bucketAt}
 use Rattle.book.specs.Cycle.{Delivery}
 use Rattle.book.specs.Calls.{Call, offer, step, run}
 
--- a flow from (xs,ys) to (xd,yd) with period P and burst 1
-abbrev flow : ℕ → ℕ → ℕ → ℕ → ℕ → Flow
-flow xs ys xd yd P = record { xs = xs; ys = ys; xd = xd; yd = yd; period = P; burst = 1 }
+-- a flow from (xs,ys) to (xd,yd) with period P and burst σ
+abbrev flow : ℕ → ℕ → ℕ → ℕ → ℕ → ℕ → Flow
+flow xs ys xd yd P σ = record { xs = xs; ys = ys; xd = xd; yd = yd; period = P; burst = σ }
 
--- a 4 by 4 torus
 abbrev torus : List Flow → Plan
 torus fs = record { sx = 4; sy = 4; flows = fs }
 
@@ -27,38 +32,81 @@ abbrev exit : ℕ → ℕ → ℕ → ℕ → ℕ → Delivery
 exit f s e t D = record { flow = f; serial = s; entry = e; exit = t; D = D }
 
 -- flight is exit − entry + 2
-abbrev flight : Delivery → ℕ
-flight d = d .exit - d .entry + 2
+abbrev flown : Delivery → ℕ
+flown d = d .exit - d .entry + 2
 
 -- what a row says of the definitions
 pub data Case : Type 0 where
-  -- a row on flights and windows
-  bounds : Window.Case → Case
+  -- ΔX and ΔY of a flow
+  offsets : Flow → ℕ → ℕ → Case
+  -- a flow's flight unhindered
+  flight : Flow → ℕ → Case
+  -- a flow's flight bound
+  bound : Flow → ℕ → Case
+  -- the spread of flow 1 at the source of flow 0
+  spread : Plan → ℕ → Case
+  -- the window of flow 0
+  window : Plan → Window → Case
   -- what a list of calls delivers, and its flights
   delivers : Plan → List Call → List Delivery → List ℕ → Case
   -- the tokens of flow 0 after a list of calls
   tokens : Plan → List Call → ℕ → Case
 
 abbrev pub Holds : Case → Type 0
-Holds (bounds c) = Window.Holds c
-Holds (delivers p cs ds ts) = (run p cs .delivered ≡ ds) × (map flight ds ≡ ts)
+Holds (offsets f dx dy) = (ΔX 4 f ≡ dx) × (ΔY 4 f ≡ dy)
+Holds (flight f n) = flightOf 4 4 f 0 ≡ n
+Holds (bound f n) = flightBound 4 4 f ≡ n
+Holds (spread p j) = conflict 4 4 (flowAt p 0) (flowAt p 1) ≡ Spread j
+Holds (window p found) = windowOf p 0 ≡ found
+Holds (delivers p cs ds ts) = (run p cs .delivered ≡ ds) × (map flown ds ≡ ts)
 Holds (tokens p cs n) = (bucketAt (run p cs .book) 0) .tokens ≡ n
 
 abbrev pub AllHold : List Case → Type 0
 AllHold [] = Unit
 AllHold (c ∷ cs) = Holds c × AllHold cs
 
--- the rows on the cycle; the cases name no P or σ but for the token's, so 9 and 1 stand for them
-abbrev pub onCycle : List Case
-onCycle =
-    delivers (torus (flow 0 0 3 3 9 ∷ [])) (offer 0 ∷ steps 7) (exit 0 1 0 6 0 ∷ []) (8 ∷ [])
-    ∷ delivers (torus (flow 3 3 3 1 9 ∷ [])) (offer 0 ∷ steps 3) (exit 0 1 0 2 0 ∷ []) (4 ∷ [])
-    ∷ delivers (torus (flow 2 2 2 2 9 ∷ [])) (offer 0 ∷ steps 1) (exit 0 1 0 0 0 ∷ []) (2 ∷ [])
-    ∷ delivers (torus (flow 0 0 0 1 9 ∷ flow 3 1 0 1 9 ∷ [])) (offer 0 ∷ offer 1 ∷ steps 6) (exit 1 1 0 1 0 ∷ exit 0 1 0 5 1 ∷ []) (3 ∷ 7 ∷ [])
-    ∷ tokens (torus (flow 0 0 3 3 10 ∷ [])) (offer 0 ∷ steps 1) 0
-    ∷ tokens (torus (flow 0 0 3 3 10 ∷ [])) (offer 0 ∷ steps 9) 0
-    ∷ tokens (torus (flow 0 0 3 3 10 ∷ [])) (offer 0 ∷ steps 10) 1
-    ∷ []
+-- where a case of 01 names no period or burst, 9 and 1 stand for them
+abbrev far : Flow
+far = flow 0 0 3 3 9 1
+
+abbrev south : Flow
+south = flow 3 3 3 1 9 1
+
+abbrev home : Flow
+home = flow 2 2 2 2 9 1
+
+-- f and g in one row, and in one column
+abbrev pub across : ℕ → ℕ → Plan
+across P σ = torus (flow 1 0 2 0 9 1 ∷ flow 0 0 3 0 P σ ∷ [])
+
+abbrev along : Plan
+along = torus (flow 0 2 0 3 9 1 ∷ flow 0 0 0 3 8 1 ∷ [])
+
+-- the two that meet at (0,1), and the one of period 10
+abbrev meeting : Plan
+meeting = torus (flow 0 0 0 1 9 1 ∷ flow 3 1 0 1 9 1 ∷ [])
+
+abbrev slow : Plan
+slow = torus (flow 0 0 3 3 10 1 ∷ [])
 
 abbrev pub starred : List Case
-starred = map bounds Window.starred ++ onCycle
+starred =
+    flight far 8
+    ∷ bound far 20
+    ∷ delivers (torus (far ∷ [])) (offer 0 ∷ steps 7) (exit 0 1 0 6 0 ∷ []) (8 ∷ [])
+    ∷ offsets south 0 2
+    ∷ flight south 4
+    ∷ bound south 12
+    ∷ delivers (torus (south ∷ [])) (offer 0 ∷ steps 3) (exit 0 1 0 2 0 ∷ []) (4 ∷ [])
+    ∷ flight home 2
+    ∷ delivers (torus (home ∷ [])) (offer 0 ∷ steps 1) (exit 0 1 0 0 0 ∷ []) (2 ∷ [])
+    ∷ delivers meeting (offer 0 ∷ offer 1 ∷ steps 6) (exit 1 1 0 1 0 ∷ exit 0 1 0 5 1 ∷ []) (3 ∷ 7 ∷ [])
+    ∷ window (across 10 1) (At 2)
+    ∷ window (across 2 3) (At 6)
+    ∷ window (across 1 1) Nothing
+    ∷ spread along 8
+    ∷ window along (At 3)
+    ∷ tokens slow (offer 0 ∷ steps 1) 0
+    ∷ tokens slow (offer 0 ∷ steps 9) 0
+    ∷ tokens slow (offer 0 ∷ steps 10) 1
+    ∷ []

@@ -12,7 +12,7 @@ use Rattle.flow.specs.declared.Port.{Port}
 use Rattle.flow.specs.Offsets.{sameClient}
 use Rattle.flow.specs.Plan.{Plan, flowAt}
 use Rattle.bucket.specs.Regulator.{bucketFits}
-use Rattle.window.specs.declared.Found.the-variants.{At}
+use Rattle.window.specs.declared.Window.the-variants.{At}
 use Rattle.window.specs.Window.{windowOf}
 use Rattle.window.specs.Flight.{travel, mostDeflections}
 use Rattle.place.specs.Place.{Place, columnOf, rowOf}

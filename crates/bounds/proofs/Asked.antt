@@ -14,7 +14,8 @@ use Rattle.plan.specs.declared.Answer.the-variants.{Done, Refused}
 use Rattle.plan.specs.declared.Trailer.{Trailer}
 use Rattle.plan.specs.Layout.{trailerOf, planOf}
 use Rattle.plan.specs.Refusals.{orElse, planAnswer}
-use Rattle.bounds.specs.Calls.{Accepted, Opened, asked}
+use Rattle.bounds.specs.Calls.{asked}
+use Rattle.bounds.specs.Inner.{Opened, FlowOf}
 use Rattle.bounds.proofs.Opened.{opened-count}
 
 -- the refusal of a plan or of a flow number does not depend on what would be answered
@@ -32,7 +33,8 @@ asked-refused file f n place a e = refused-first (planAnswer file) (ltb f (lengt
 
 -- a flow of an accepted file
 pub record Known (file : List ℕ) (f : ℕ) : Type 0 where
-  pub accepted : Accepted file
+  pub value : ℕ
+  pub done : planAnswer file ≡ Done value
   pub below : f < length (planOf file .flows)
   pub answers : (a : Answer) → asked file f a ≡ a
 
@@ -46,7 +48,7 @@ asked-done file f v e = go (planAnswer file) refl e
         absurd (omega arith)
     go (Done w) p q =
         elim (test (ltb f (length (planOf file .flows)))) [
-          | inl below ↦ record { accepted = record { value = w; done = p }; below = ltb-true _ _ below; answers = λ a. rw (p, below) }
+          | inl below ↦ record { value = w; done = p; below = ltb-true _ _ below; answers = λ a. rw (p, below) }
           | inr above ↦
               let refused : Refused 12 0 ≡ Done v = rw above at q in
               let never : _≡_ {A = ℕ} 0 1 = cc in
@@ -54,7 +56,7 @@ asked-done file f v e = go (planAnswer file) refl e
         ]
 
 -- with the trailer that was read
-pub known-opened : (file : List ℕ) (f : ℕ) (t : Trailer) → Known file f → t ≡ trailerOf file → Opened file t × (f < t .count)
-known-opened file f t k e =
-    let o : Opened file t = record { accepted = k .accepted; trailer = e } in
-    (o, rw (opened-count file t o) at (k .below))
+pub known-flow : (file : List ℕ) (f : ℕ) (t : Trailer) → Known file f → t ≡ trailerOf file → FlowOf file t f
+known-flow file f t k e =
+    let o : Opened file t = record { value = k .value; done = k .done; trailer = e } in
+    record { opened = o; below = rw (opened-count file t o) at (k .below) }

@@ -1,36 +1,31 @@
 -- Refusal numbers are small: a plan's at most 7, a window's at most 14. Rests on the definitions of the refusals.
 use mathlib.Core.Bool.{Bool, true, false, cond, not, _&&_, _||_}
 use mathlib.Core.List.{List}
-use mathlib.Core.Logic.{inl, inr}
 use Prim.Native.Nat.{ℕ, zero, suc, _+_, _-_, _*_, _≤_}
-use native.Mathlib.Nat.{le-trans}
 use native.Mathlib.Omega.{arith}
 use lib.Dec.{ltb, eqb}
 use lib.ListN.{length}
-use Rattle.laws.proofs.Cases.{test}
 use Rattle.flow.specs.declared.Flow.{Flow}
 use Rattle.flow.specs.Plan.{onTorus, mostFlows}
 use Rattle.plan.specs.declared.Answer.{Answer}
-use Rattle.plan.specs.declared.Answer.the-variants.{Refused}
+use Rattle.plan.specs.declared.Answer.the-variants.{Done, Refused}
 use Rattle.plan.specs.declared.Trailer.{Trailer}
 use Rattle.plan.specs.Refusals as Refusals
-use Rattle.plan.specs.Refusals.{answerOf, orElse, sizeOk, headerNumber, trailerNumber, recordNumber, flowNumber, firstRefused, planAnswer}
+use Rattle.plan.specs.Refusals.{answerBy, orElse, sizeOk, headerNumber, trailerNumber, recordNumber, flowNumber, firstRefused, recordsAnswer, planAnswer}
 use Rattle.plan.specs.Layout.{mostFile, recordSize, trailerSize, tagged, trailerOf, planOf}
-use Rattle.window.specs.declared.Found.{Found}
-use Rattle.window.specs.declared.Found.the-variants.{At, Nothing}
+use Rattle.window.specs.declared.Window.{Window}
+use Rattle.window.specs.declared.Window.the-variants.{At, Nothing}
 use Rattle.window.specs.Window.{windowOf}
-use Rattle.bounds.specs.Calls.{NumberMost, done, refused, asked, windowFound, windowAnswer}
+use Rattle.bounds.specs.Calls.{asked, windowBy, windowAnswer}
+use Rattle.bounds.specs.Inner.{NumberMost}
 
-pub refused-most : {m n place : ℕ} → NumberMost m (Refused n place) → n ≤ m
-refused-most (refused l) = l
+or-else-most : (m : ℕ) (a b : Answer) → NumberMost m a → NumberMost m b → NumberMost m (orElse a b)
+or-else-most m (Done v) b h k = k
+or-else-most m (Refused n place) b h k = h
 
-or-else-most : {m : ℕ} {a b : Answer} → NumberMost m a → NumberMost m b → NumberMost m (orElse a b)
-or-else-most done h = h
-or-else-most (refused l) h = refused l
-
-answer-most : {m : ℕ} (n place : ℕ) → n ≤ m → NumberMost m (answerOf n place)
-answer-most zero place h = done
-answer-most (suc n) place h = refused h
+answer-most : (m n place : ℕ) → n ≤ m → NumberMost m (answerBy n place)
+answer-most m zero place h = tt
+answer-most m (suc n) place h = h
 
 number-most : {m x y : ℕ} (b : Bool) → x ≤ m → y ≤ m → cond b x y ≤ m
 number-most true h k = h
@@ -55,34 +50,41 @@ record-most sx sy f last =
     number-most (not (onTorus sx sy f)) (omega arith)
     (number-most (eqb (f .period) 0 || eqb (f .burst) 0 || not (eqb last 0)) (omega arith) (omega arith))
 
-first-most : (number : ℕ → ℕ) {m : ℕ} → ((i : ℕ) → number i ≤ m) → (n : ℕ) → NumberMost m (firstRefused number n)
+first-most : (number : ℕ → ℕ) (m : ℕ) → ((i : ℕ) → number i ≤ m) → (n : ℕ) → NumberMost m (firstRefused number n)
 unfolding Refusals.firstRefused
-first-most number h zero = done
-first-most number h (suc n) = or-else-most (first-most number h n) (answer-most (number n) n (h n))
+first-most number m h zero = tt
+first-most number m h (suc n) =
+    or-else-most m (firstRefused number n) (answerBy (number n) n) (first-most number m h n) (answer-most m (number n) n (h n))
 
 -- a plan's refusals are 1 to 7
 pub plan-most : (file : List ℕ) → NumberMost 7 (planAnswer file)
 unfolding Refusals.planAnswer Refusals.flowNumber
 plan-most file =
-    or-else-most (answer-most (trailerNumber file) 0 (trailer-most file))
-    (first-most (flowNumber file (trailerOf file)) (λ f. record-most _ _ _ _) ((trailerOf file) .count))
+    or-else-most 7 (answerBy (trailerNumber file) 0) (recordsAnswer file (trailerOf file)) (answer-most 7 (trailerNumber file) 0 (trailer-most file))
+    (first-most (flowNumber file (trailerOf file)) 7 (λ f. record-most _ _ _ _) ((trailerOf file) .count))
 
 -- no call on a flow adds a larger number than its own
-asked-most : {m : ℕ} (file : List ℕ) (f : ℕ) (a : Answer) → 12 ≤ m → NumberMost m a → NumberMost m (asked file f a)
+asked-most : (file : List ℕ) (f m : ℕ) (a : Answer) → 12 ≤ m → NumberMost m a → NumberMost m (asked file f a)
 unfolding asked
-asked-most {m} file f a h k = or-else-most (raise (plan-most file)) (elim (test (ltb f (length (planOf file .flows)))) [ inl below ↦ rw below k | inr above ↦ rw above (refused h) ])
+asked-most file f m a h k =
+    or-else-most m (planAnswer file) (cond known a (Refused 12 0)) (raise (planAnswer file) (plan-most file)) (with-flow known)
   where
-    raise : {a : Answer} → NumberMost 7 a → NumberMost m a
-    raise done = done
-    raise (refused l) =
-        let seven : 7 ≤ m = omega arith in
-        refused (le-trans l seven)
+    known : Bool
+    known = ltb f (length (planOf file .flows))
+
+    with-flow : (b : Bool) → NumberMost m (cond b a (Refused 12 0))
+    with-flow true = k
+    with-flow false = h
+
+    raise : (a : Answer) → NumberMost 7 a → NumberMost m a
+    raise (Done v) l = tt
+    raise (Refused n place) l = omega arith
 
 -- 14 is the window call's last
 pub window-most : (file : List ℕ) (f : ℕ) → NumberMost 14 (windowAnswer file f)
 unfolding windowAnswer
-window-most file f = asked-most file f _ (omega arith) (found (windowOf (planOf file) f))
+window-most file f = asked-most file f 14 _ (omega arith) (found (windowOf (planOf file) f))
   where
-    found : (w : Found) → NumberMost 14 (windowFound f w)
-    found (At T) = done
-    found Nothing = refused {n = 14} (omega arith)
+    found : (w : Window) → NumberMost 14 (windowBy f w)
+    found (At T) = tt
+    found Nothing = omega arith

@@ -1,53 +1,36 @@
 -- The window call and the flight call on a plan file (01, When a call says no).
 use mathlib.Core.Bool.{cond}
 use mathlib.Core.List.{List}
-use mathlib.Core.Path.{_≡_}
-use Prim.Native.Nat.{ℕ, _≤_}
+use Prim.Native.Nat.{ℕ}
 use lib.Dec.{ltb}
 use lib.ListN.{length}
 use Rattle.flow.specs.Plan.{Plan, flowAt}
 use Rattle.plan.specs.declared.Answer.{Answer}
 use Rattle.plan.specs.declared.Answer.the-variants.{Done, Refused}
-use Rattle.plan.specs.declared.Trailer.{Trailer}
-use Rattle.plan.specs.Layout.{trailerOf, planOf}
+use Rattle.plan.specs.Layout.{planOf}
 use Rattle.plan.specs.Refusals.{orElse, planAnswer}
-use Rattle.window.specs.declared.Found.{Found}
-use Rattle.window.specs.declared.Found.the-variants.{At, Nothing}
+use Rattle.window.specs.declared.Window.{Window}
+use Rattle.window.specs.declared.Window.the-variants.{At, Nothing}
 use Rattle.window.specs.Window.{windowOf}
 use Rattle.window.specs.Flight.{flightBound}
-
--- a file that reading accepts
-pub record Accepted (file : List ℕ) : Type 0 where
-  pub value : ℕ
-  pub done : planAnswer file ≡ Done value
-
--- such a file with its trailer at hand
-pub record Opened (file : List ℕ) (t : Trailer) : Type 0 where
-  pub accepted : Accepted file
-  pub trailer : t ≡ trailerOf file
 
 -- a call on a flow of a plan file: the plan's refusals, then 12: flow number F or more
 unfoldable pub asked : List ℕ → ℕ → Answer → Answer
 asked file f answer = orElse (planAnswer file) (cond (ltb f (length (planOf file .flows))) answer (Refused 12 0))
 
 -- T, or 14: no window T, with the flow as place
-abbrev pub windowFound : ℕ → Found → Answer
-windowFound f (At T) = Done T
-windowFound f Nothing = Refused 14 f
+abbrev pub windowBy : ℕ → Window → Answer
+windowBy f (At T) = Done T
+windowBy f Nothing = Refused 14 f
 
 -- window: plan, 12, 14
 unfoldable pub windowAnswer : List ℕ → ℕ → Answer
-windowAnswer file f = asked file f (windowFound f (windowOf (planOf file) f))
+windowAnswer file f = asked file f (windowBy f (windowOf (planOf file) f))
 
 -- the flight bound of flow number f
-abbrev pub flightOfPlan : Plan → ℕ → ℕ
-flightOfPlan p f = flightBound (p .sx) (p .sy) (flowAt p f)
+abbrev pub flightBoundOf : Plan → ℕ → ℕ
+flightBoundOf p f = flightBound (p .sx) (p .sy) (flowAt p f)
 
 -- flight bound: plan, 12
-unfoldable pub flightAnswer : List ℕ → ℕ → Answer
-flightAnswer file f = asked file f (Done (flightOfPlan (planOf file) f))
-
--- the answer has no larger refusal number
-pub data NumberMost (m : ℕ) : Answer → Type 0 where
-  done : {v : ℕ} → NumberMost m (Done v)
-  refused : {n place : ℕ} → n ≤ m → NumberMost m (Refused n place)
+unfoldable pub flightBoundAnswer : List ℕ → ℕ → Answer
+flightBoundAnswer file f = asked file f (Done (flightBoundOf (planOf file) f))

@@ -1,2 +1,3 @@
 -- The calls that answer bounds from a plan file, in 01's words.
 pub mod Calls
+pub mod Inner

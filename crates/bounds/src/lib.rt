@@ -2,7 +2,7 @@
 use flow::Flow;
 use plan::Answer;
 use plan::Trailer;
-use window::Found;
+use window::Window;
 ghost use mathlib.Core.Path.{_≡_};
 ghost use Prim.Native.Nat.{_+_, _*_, _<_, _≤_};
 ghost use lib.ListN.{length};
@@ -11,19 +11,20 @@ ghost use Rattle.plan.specs.declared.Answer.the-variants.{Done};
 ghost use Rattle.plan.specs.Layout.{planOf};
 ghost use Rattle.window.specs.Window.{windowOf};
 ghost use Rattle.window.specs.Rivals.{rivalWords, RivalsAmong};
-ghost use Rattle.bounds.specs.Calls.{Opened, asked, windowAnswer, flightAnswer, flightOfPlan};
+ghost use Rattle.bounds.specs.Inner.{FlowOf};
+ghost use Rattle.bounds.specs.Calls.{asked, windowAnswer, flightBoundAnswer, flightBoundOf};
 
 // Flow number f of an accepted file.
-pub fn flow_of(file: &[u8], t: Trailer, f: u32) -> Flow
-    requires { ⌜ (Opened (now file) t) × (f < t .count) ⌝ }
+pub fn flow_at(file: &[u8], t: Trailer, f: u32) -> Flow
+    requires { ⌜ FlowOf (now file) t f ⌝ }
     ensures { λ r. ⌜ r ≡ flowAt (planOf (now (file .entry))) f ⌝ }
 {
-    plan::flow_at(file, (t.start as usize) + plan::RECORD_SIZE * (f as usize))
+    plan::flow_from(file, (t.start as usize) + plan::RECORD_SIZE * (f as usize))
 }
 
 // Flow g, after the n rivals of flow f among the flows before it.
 fn meet(file: &[u8], t: Trailer, own: Flow, f: u32, g: u32, rivals: &mut [u32], n: usize) -> usize
-    requires { ⌜ (Opened (now file) t) × ((f < t .count) × (g < t .count)) ⌝ }
+    requires { ⌜ (FlowOf (now file) t f) × (FlowOf (now file) t g) ⌝ }
     requires { ⌜ own ≡ flowAt (planOf (now file)) f ⌝ }
     requires { ⌜ RivalsAmong (planOf (now file)) f g (now rivals) n ⌝ }
     ensures { λ r. ⌜ RivalsAmong (planOf (now (file .entry))) f (g + 1) (now (rivals .exit)) r ⌝ }
@@ -31,17 +32,17 @@ fn meet(file: &[u8], t: Trailer, own: Flow, f: u32, g: u32, rivals: &mut [u32], 
     if g == f {
         return n;
     }
-    let other = flow_of(file, t, g);
+    let other = flow_at(file, t, g);
     let c = window::conflict_of(t.sx, t.sy, own, other);
     window::keep_rival(rivals, n, other, c)
 }
 
 // The rivals of flow f, found once; they are as many as is answered.
 fn find_rivals(file: &[u8], t: Trailer, f: u32, rivals: &mut [u32]) -> usize
-    requires { ⌜ (Opened (now file) t) × ((f < t .count) × (rivalWords * t .count ≤ length (now rivals))) ⌝ }
+    requires { ⌜ (FlowOf (now file) t f) × (rivalWords * t .count ≤ length (now rivals)) ⌝ }
     ensures { λ r. ⌜ RivalsAmong (planOf (now (file .entry))) f (t .count) (now (rivals .exit)) r ⌝ }
 {
-    let own = flow_of(file, t, f);
+    let own = flow_at(file, t, f);
     let count = t.count;
     let mut n = 0usize;
     for g in 0..count {
@@ -51,8 +52,8 @@ fn find_rivals(file: &[u8], t: Trailer, f: u32, rivals: &mut [u32]) -> usize
 }
 
 // The window T of flow f of an accepted file, with room for its rivals.
-fn window_in(file: &[u8], t: Trailer, f: u32, rivals: &mut [u32]) -> Found
-    requires { ⌜ (Opened (now file) t) × ((f < t .count) × (rivalWords * t .count ≤ length (now rivals))) ⌝ }
+fn window_in(file: &[u8], t: Trailer, f: u32, rivals: &mut [u32]) -> Window
+    requires { ⌜ (FlowOf (now file) t f) × (rivalWords * t .count ≤ length (now rivals)) ⌝ }
     ensures { λ r. ⌜ r ≡ windowOf (planOf (now (file .entry))) f ⌝ }
 {
     let n = find_rivals(file, t, f, rivals);
@@ -60,8 +61,8 @@ fn window_in(file: &[u8], t: Trailer, f: u32, rivals: &mut [u32]) -> Found
 }
 
 // The window T of flow f of an accepted file. Few flows need little room.
-pub fn window_found(file: &[u8], t: Trailer, f: u32) -> Found
-    requires { ⌜ (Opened (now file) t) × (f < t .count) ⌝ }
+pub fn window_of(file: &[u8], t: Trailer, f: u32) -> Window
+    requires { ⌜ FlowOf (now file) t f ⌝ }
     ensures { λ r. ⌜ r ≡ windowOf (planOf (now (file .entry))) f ⌝ }
 {
     if t.count <= 64 {
@@ -73,21 +74,21 @@ pub fn window_found(file: &[u8], t: Trailer, f: u32) -> Found
 }
 
 // The flight bound of flow f of an accepted file.
-pub fn flight_found(file: &[u8], t: Trailer, f: u32) -> u32
-    requires { ⌜ (Opened (now file) t) × (f < t .count) ⌝ }
-    ensures { λ r. ⌜ r ≡ flightOfPlan (planOf (now (file .entry))) f ⌝ }
+pub fn flight_bound_of(file: &[u8], t: Trailer, f: u32) -> u32
+    requires { ⌜ FlowOf (now file) t f ⌝ }
+    ensures { λ r. ⌜ r ≡ flightBoundOf (planOf (now (file .entry))) f ⌝ }
 {
-    window::flight_bound(t.sx, t.sy, flow_of(file, t, f))
+    window::flight_bound(t.sx, t.sy, flow_at(file, t, f))
 }
 
 // 0 for a flow of an accepted file, or the refusal.
 fn ask(file: &[u8], f: u32) -> Answer
     ensures { λ r. ⌜ r ≡ asked (now (file .entry)) f (Done 0) ⌝ }
 {
-    match plan::answer_of(file) {
+    match plan::plan_answer(file) {
         Answer::Refused { number, place } => Answer::Refused { number, place },
         Answer::Done(_) => {
-            let count = plan::read_trailer(file).count;
+            let count = plan::trailer_of(file).count;
             if count <= f {
                 return Answer::Refused {
                     number: 12,
@@ -105,9 +106,9 @@ pub fn window(file: &[u8], f: u32) -> Answer
 {
     match ask(file, f) {
         Answer::Refused { number, place } => Answer::Refused { number, place },
-        Answer::Done(_) => match window_found(file, plan::read_trailer(file), f) {
-            Found::At(least) => Answer::Done(least),
-            Found::Nothing => Answer::Refused {
+        Answer::Done(_) => match window_of(file, plan::trailer_of(file), f) {
+            Window::At(least) => Answer::Done(least),
+            Window::Nothing => Answer::Refused {
                 number: 14,
                 place: f,
             },
@@ -116,11 +117,11 @@ pub fn window(file: &[u8], f: u32) -> Answer
 }
 
 // The flight call: the flight bound, or a refusal.
-pub fn flight(file: &[u8], f: u32) -> Answer
-    ensures { λ r. ⌜ r ≡ flightAnswer (now (file .entry)) f ⌝ }
+pub fn flight_bound(file: &[u8], f: u32) -> Answer
+    ensures { λ r. ⌜ r ≡ flightBoundAnswer (now (file .entry)) f ⌝ }
 {
     match ask(file, f) {
         Answer::Refused { number, place } => Answer::Refused { number, place },
-        Answer::Done(_) => Answer::Done(flight_found(file, plan::read_trailer(file), f)),
+        Answer::Done(_) => Answer::Done(flight_bound_of(file, plan::trailer_of(file), f)),
     }
 }

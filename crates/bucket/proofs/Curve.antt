@@ -1,8 +1,7 @@
--- Laws of the curve: it never falls with the span, never rises with the period, is at most burst and span together, and
--- keeps pace with one packet a period.
--- Rests on specs/Curve; windows use these laws and never open it.
+-- Laws of the curve: it never falls with the span, is at most burst and span together, and keeps pace with one packet a period.
+-- Rests on specs/Curve. Windows use these laws; only the starred cases, which compute, open the curve elsewhere.
 use Prim.Native.Nat.{ℕ, zero, suc, _+_, _*_, _/_, _≤_, _<_}
-use native.Mathlib.Nat.{div-zero, div-le-self, div-mul-le-self, le-div-iff-mul-le, mul-le-mul-left, le-trans, lt-div-mul-add, add-mul, mul-le-mul-right}
+use native.Mathlib.Nat.{div-zero, div-le-self, div-mul-le-self, le-div-iff-mul-le, le-trans, lt-div-mul-add, add-mul, mul-le-mul-right}
 use native.Mathlib.Omega.{arith}
 use Rattle.bucket.specs.Curve.{curve}
 
@@ -11,17 +10,9 @@ div-span : (period : ℕ) {d e : ℕ} → d ≤ e → d / period ≤ e / period
 div-span zero {d} {e} h = omega (arith, div-zero d, div-zero e)
 div-span (suc p) {d} {e} h = le-div-iff-mul-le {k = suc p} (omega arith) .1 (le-trans (div-mul-le-self d (suc p)) h)
 
--- ⌊d/P⌋ never rises with P
-div-period : {p q : ℕ} (d : ℕ) → 1 ≤ p → p ≤ q → d / q ≤ d / p
-div-period {p} {q} d h l = le-div-iff-mul-le {k = p} h .1 (le-trans (mul-le-mul-left (d / q) l) (div-mul-le-self d q))
-
 pub curve-span : (burst period : ℕ) {d e : ℕ} → d ≤ e → curve burst period d ≤ curve burst period e
 unfolding curve
 curve-span burst period h = omega (arith, div-span period h)
-
-pub curve-period : (burst : ℕ) {p q : ℕ} (d : ℕ) → 1 ≤ p → p ≤ q → curve burst q d ≤ curve burst p d
-unfolding curve
-curve-period burst d h l = omega (arith, div-period d h l)
 
 pub curve-most : (burst period d : ℕ) → curve burst period d ≤ burst + d
 unfolding curve

@@ -1,5 +1,5 @@
 -- The two laws of the regulator: how often a flow enters in neighbouring cycles, and how long it is without a token.
--- They alone open the bucket; what they rest on from reset is `Regulated`, whose fields nobody else reads.
+-- What they rest on from reset is `Regulated`, whose fields nobody else reads. Rests on specs/Regulator.
 use mathlib.Core.Bool.{Bool, true, false, cond}
 use mathlib.Core.Logic.{_⊎_, inl, inr}
 use mathlib.Core.Path.{_≡_, refl, ap, _∙_}

@@ -59,7 +59,7 @@ fn put(words: &mut [u32], at: usize, value: u32) {
 // Each call is made on the first n bytes or words of what is lent.
 fn read(asked: &[u8], file: &[u8], n: usize) {
     if n <= file.len() {
-        told(asked, plan::answer_of(&file[..n]));
+        told(asked, plan::plan_answer(&file[..n]));
     }
 }
 
@@ -71,7 +71,7 @@ fn window(asked: &[u8], file: &[u8], n: usize, flow: u32) {
 
 fn flight(asked: &[u8], file: &[u8], n: usize, flow: u32) {
     if n <= file.len() {
-        told(asked, bounds::flight(&file[..n], flow));
+        told(asked, bounds::flight_bound(&file[..n], flow));
     }
 }
 

@@ -9,13 +9,13 @@ use Rattle.flow.specs.declared.Flow.{Flow}
 use Rattle.flow.specs.Plan.{onTorus}
 
 -- every coordinate is below its size
-pub record OnTorus (sx sy : ℕ) (f : Flow) : Type 0 where
+pub record FlowOn (sx sy : ℕ) (f : Flow) : Type 0 where
   pub xs-on : f .xs < sx
   pub ys-on : f .ys < sy
   pub xd-on : f .xd < sx
   pub yd-on : f .yd < sy
 
-pub on-torus-facts : (sx sy : ℕ) (f : Flow) → onTorus sx sy f ≡ true → OnTorus sx sy f
+pub on-torus-facts : (sx sy : ℕ) (f : Flow) → onTorus sx sy f ≡ true → FlowOn sx sy f
 on-torus-facts sx sy f e =
     let three = and-true (ltb (f .xs) sx && ltb (f .ys) sy && ltb (f .xd) sx) (ltb (f .yd) sy) e in
     let two = and-true (ltb (f .xs) sx && ltb (f .ys) sy) (ltb (f .xd) sx) (three .0) in

@@ -1,7 +1,8 @@
 // The C interface, declared in include/hrt.h: thin, over the calls of plan, bounds, reset, writing and cycle.
 use plan::Answer;
 ghost use mathlib.Core.Path.{_≡_};
-ghost use Rattle.bounds.specs.Calls.{windowAnswer, flightAnswer, NumberMost};
+ghost use Rattle.bounds.specs.Calls.{windowAnswer, flightBoundAnswer};
+ghost use Rattle.bounds.specs.Inner.{NumberMost};
 ghost use Rattle.host.specs.Words.{windowWord, answerWord, notesAnswer, inWords};
 ghost use Rattle.state.specs.Outcome.{outcome, lent};
 ghost use Rattle.state.specs.Calls.{resetOn, writeOn};
@@ -39,9 +40,9 @@ pub extern "C" fn hrt_window(plan: &[u8], flow: u32) -> u32
 // The flight bound of a flow.
 #[no_mangle]
 pub extern "C" fn hrt_flight(plan: &[u8], flow: u32) -> u64
-    ensures { λ r. ⌜ r ≡ answerWord (flightAnswer (now (plan .entry)) flow) ⌝ }
+    ensures { λ r. ⌜ r ≡ answerWord (flightBoundAnswer (now (plan .entry)) flow) ⌝ }
 {
-    answer_word(bounds::flight(plan, flow))
+    answer_word(bounds::flight_bound(plan, flow))
 }
 
 // The length of the notes, the leading part of the file.
@@ -49,7 +50,7 @@ pub extern "C" fn hrt_flight(plan: &[u8], flow: u32) -> u64
 pub extern "C" fn hrt_notes(plan: &[u8]) -> u64
     ensures { λ r. ⌜ r ≡ answerWord (notesAnswer (now (plan .entry))) ⌝ }
 {
-    match plan::answer_of(plan) {
+    match plan::plan_answer(plan) {
         Answer::Refused { number, place } => answer_word(Answer::Refused { number, place }),
         Answer::Done(_) => plan::notes(plan).len() as u64,
     }

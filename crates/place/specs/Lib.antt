@@ -2,3 +2,4 @@
 pub mod Place
 pub mod Input
 pub mod InPlace
+pub mod Inner

@@ -4,6 +4,7 @@ ghost use mathlib.Core.Path.{_≡_};
 ghost use Prim.Native.Nat.{_≤_, _<_};
 ghost use Rattle.flow.specs.Plan.{FlowOk, mostSize};
 ghost use Rattle.place.specs.InPlace.{inNorth, inFirstRow, inLaterRow, inPlace};
+ghost use Rattle.place.specs.Inner.{OnColumn};
 ghost use Rattle.place.specs.Input.{placeOf};
 
 // The input of a router that a link register feeds.
@@ -14,7 +15,7 @@ pub enum Input {
 
 // In N of column x, r rows south of the source's row.
 fn in_north(sx: u32, sy: u32, f: Flow, x: u32, r: u32, d: u32, e: u32) -> bool
-    requires { ⌜ (FlowOk sx sy f) × ((sx ≤ mostSize) × (r ≤ mostSize)) ⌝ }
+    requires { ⌜ (OnColumn sx sy f x) × (r ≤ mostSize) ⌝ }
     ensures { λ b. ⌜ b ≡ inNorth sx sy f x r d e ⌝ }
 {
     if x != f.xd {
@@ -34,7 +35,7 @@ fn in_north(sx: u32, sy: u32, f: Flow, x: u32, r: u32, d: u32, e: u32) -> bool
 
 // In W of column x, in the source's row.
 fn in_first_row(sx: u32, sy: u32, f: Flow, x: u32, d: u32, e: u32) -> bool
-    requires { ⌜ (FlowOk sx sy f) × (x < sx) ⌝ }
+    requires { ⌜ OnColumn sx sy f x ⌝ }
     ensures { λ b. ⌜ b ≡ inFirstRow sx f x d e ⌝ }
 {
     let j = torus::offset(sx, f.xs, x);
@@ -52,7 +53,7 @@ fn in_first_row(sx: u32, sy: u32, f: Flow, x: u32, d: u32, e: u32) -> bool
 
 // In W of column x, r rows south of the source's row.
 fn in_later_row(sx: u32, sy: u32, f: Flow, x: u32, r: u32, d: u32, e: u32) -> bool
-    requires { ⌜ (FlowOk sx sy f) × ((x < sx) × ((sx ≤ mostSize) × (r ≤ mostSize))) ⌝ }
+    requires { ⌜ (OnColumn sx sy f x) × (r ≤ mostSize) ⌝ }
     ensures { λ b. ⌜ b ≡ inLaterRow sx sy f x r d e ⌝ }
 {
     if f.offset_y(sy) < r {

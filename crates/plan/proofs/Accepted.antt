@@ -12,7 +12,7 @@ use Rattle.flow.specs.Plan.{mostSize, mostFlows}
 use Rattle.plan.specs.declared.Trailer.{Trailer}
 use Rattle.plan.specs.Layout.{mostFile, trailerSize, recordSize, tagged, trailerOf}
 use Rattle.plan.specs.declared.Answer.the-variants.{Done}
-use Rattle.plan.specs.Refusals.{sizeOk, headerNumber, trailerNumber, answerOf, recordsAnswer, planAnswer}
+use Rattle.plan.specs.Refusals.{sizeOk, headerNumber, trailerNumber, answerBy, recordsAnswer, planAnswer}
 use Rattle.plan.proofs.Refusals.{or-else-done, answer-done}
 
 pub record SizeOk (s : ℕ) : Type 0 where
@@ -72,5 +72,5 @@ trailed file e =
 pub done-trailed : (file : List ℕ) (v : ℕ) → planAnswer file ≡ Done v → Trailed file
 unfolding planAnswer
 done-trailed file v e =
-    let parts = or-else-done (answerOf (trailerNumber file) 0) (recordsAnswer file (trailerOf file)) v e in
+    let parts = or-else-done (answerBy (trailerNumber file) 0) (recordsAnswer file (trailerOf file)) v e in
     trailed file (answer-done (trailerNumber file) 0 (parts .0) (parts .1))

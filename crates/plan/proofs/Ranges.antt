@@ -10,12 +10,12 @@ use lib.ListN.{length, getD}
 use Rattle.laws.proofs.Bounded.{length-tabulate, getD-tabulate}
 use Rattle.laws.proofs.Cases.{or-false, passed}
 use Rattle.flow.specs.declared.Flow.{Flow}
-use Rattle.flow.proofs.Plan.{on-torus-facts}
+use Rattle.flow.proofs.Plan.{FlowOn, on-torus-facts}
 use Rattle.flow.specs.Plan.{FlowOk, PlanOk, flowAt, noFlow, onTorus}
 use Rattle.plan.specs.declared.Answer.the-variants.{Done}
 use Rattle.plan.specs.Bytes.{littleEndian2}
 use Rattle.plan.specs.Layout.{trailerOf, flowFrom, lastAt, recordAt, planOf}
-use Rattle.plan.specs.Refusals.{recordNumber, flowNumber, trailerNumber, answerOf, recordsAnswer, planAnswer}
+use Rattle.plan.specs.Refusals.{recordNumber, flowNumber, trailerNumber, answerBy, recordsAnswer, planAnswer}
 use Rattle.plan.proofs.Refusals.{or-else-done, first-done}
 use Rattle.plan.proofs.Accepted.{done-trailed}
 
@@ -25,10 +25,7 @@ Bytes file = (i : ℕ) → getD file i 0 < 256
 
 -- a record that is not refused: its numbers are in range, and its last byte is 0
 pub record RecordOk (sx sy : ℕ) (f : Flow) (last : ℕ) : Type 0 where
-  pub xs-on : f .xs < sx
-  pub ys-on : f .ys < sy
-  pub xd-on : f .xd < sx
-  pub yd-on : f .yd < sy
+  pub on-torus : FlowOn sx sy f
   pub period-least : 1 ≤ f .period
   pub burst-least : 1 ≤ f .burst
   pub last-zero : last ≡ 0
@@ -42,12 +39,8 @@ record-ok sx sy f last e =
     let rates = or-false (eqb (f .period) 0) (eqb (f .burst) 0) (zeros .0) in
     let p = eqb-false (f .period) 0 (rates .0) in
     let b = eqb-false (f .burst) 0 (rates .1) in
-    let on = on-torus-facts sx sy f (not-false (onTorus sx sy f) (six .0)) in
     record {
-      xs-on = on .xs-on;
-      ys-on = on .ys-on;
-      xd-on = on .xd-on;
-      yd-on = on .yd-on;
+      on-torus = on-torus-facts sx sy f (not-false (onTorus sx sy f) (six .0));
       period-least = omega arith;
       burst-least = omega arith;
       last-zero = eqb-true last 0 (not-false _ (zeros .1));
@@ -59,7 +52,7 @@ pub done-records : (file : List ℕ) (v : ℕ) → planAnswer file ≡ Done v
     → let t = trailerOf file in RecordOk (t .sx) (t .sy) (flowFrom file (recordAt t f)) (lastAt file (recordAt t f))
 unfolding planAnswer flowNumber
 done-records file v e f l =
-    let parts = or-else-done (answerOf (trailerNumber file) 0) (recordsAnswer file (trailerOf file)) v e in
+    let parts = or-else-done (answerBy (trailerNumber file) 0) (recordsAnswer file (trailerOf file)) v e in
     record-ok _ _ _ _ (first-done (flowNumber file (trailerOf file)) ((trailerOf file) .count) v (parts .2) f l)
 
 module _ (file : List ℕ) (v : ℕ) (e : planAnswer file ≡ Done v) where
@@ -79,10 +72,10 @@ module _ (file : List ℕ) (v : ℕ) (e : planAnswer file ≡ Done v) where
         let r = done-records file v e f l in
         let at = recordAt (trailerOf file) f in
         record {
-          xs-on = r .xs-on;
-          ys-on = r .ys-on;
-          xd-on = r .xd-on;
-          yd-on = r .yd-on;
+          xs-on = r .on-torus .xs-on;
+          ys-on = r .on-torus .ys-on;
+          xd-on = r .on-torus .xd-on;
+          yd-on = r .on-torus .yd-on;
           period-least = r .period-least;
           period-most = omega (arith, bytes (at + 4), bytes (at + 4 + 1));
           burst-least = r .burst-least;

@@ -7,13 +7,13 @@ use native.Mathlib.Numerals.{add-one}
 use native.Mathlib.Omega.{arith}
 use Rattle.plan.specs.declared.Answer.{Answer}
 use Rattle.plan.specs.declared.Answer.the-variants.{Done, Refused}
-use Rattle.plan.specs.Refusals.{answerOf, orElse, firstRefused}
+use Rattle.plan.specs.Refusals.{answerBy, orElse, firstRefused}
 
-pub answer-refused : (n place : ℕ) → (n ≡ 0 → ⊥) → Refused n place ≡ answerOf n place
+pub answer-refused : (n place : ℕ) → (n ≡ 0 → ⊥) → Refused n place ≡ answerBy n place
 answer-refused zero place h = absurd (h refl)
 answer-refused (suc n) place h = refl
 
-pub answer-done : (n place v : ℕ) → answerOf n place ≡ Done v → n ≡ 0
+pub answer-done : (n place v : ℕ) → answerBy n place ≡ Done v → n ≡ 0
 answer-done zero place v e = refl
 answer-done (suc n) place v e =
     let z : _≡_ {A = ℕ} 0 1 = cc in
@@ -49,7 +49,7 @@ module _ (number : ℕ → ℕ) where
   unfolding firstRefused
   first-done zero v e i l = absurd (omega arith)
   first-done (suc n) v e i l =
-      let parts = or-else-done (firstRefused number n) (answerOf (number n) n) v e in
+      let parts = or-else-done (firstRefused number n) (answerBy (number n) n) v e in
       elim (eq-or-lt-of-le (le-of-suc-le-suc l)) [
         | inl same ↦ rw same (answer-done (number n) n v (parts .2))
         | inr below ↦ first-done n (parts .0) (parts .1) i below

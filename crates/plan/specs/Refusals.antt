@@ -12,9 +12,9 @@ use Rattle.plan.specs.declared.Trailer.{Trailer}
 use Rattle.plan.specs.Layout.{mostFile, trailerSize, recordSize, tagged, trailerOf, flowFrom, lastAt, recordAt}
 
 -- an accepted call's 0 for number 0, or the refusal with its place
-abbrev pub answerOf : ℕ → ℕ → Answer
-answerOf zero place = Done 0
-answerOf (suc n) place = Refused (suc n) place
+abbrev pub answerBy : ℕ → ℕ → Answer
+answerBy zero place = Done 0
+answerBy (suc n) place = Refused (suc n) place
 
 -- a refusal comes before whatever is checked later
 abbrev pub orElse : Answer → Answer → Answer
@@ -48,7 +48,7 @@ recordNumber sx sy f last =
 -- the first of n places whose number is not 0, with that number
 unfoldable pub firstRefused : (ℕ → ℕ) → ℕ → Answer
 firstRefused number zero = Done 0
-firstRefused number (suc n) = orElse (firstRefused number n) (answerOf (number n) n)
+firstRefused number (suc n) = orElse (firstRefused number n) (answerBy (number n) n)
 
 -- what flow f is refused for, or 0
 unfoldable pub flowNumber : List ℕ → Trailer → ℕ → ℕ
@@ -61,4 +61,4 @@ abbrev pub recordsAnswer : List ℕ → Trailer → Answer
 recordsAnswer file t = firstRefused (flowNumber file t) (t .count)
 
 unfoldable pub planAnswer : List ℕ → Answer
-planAnswer file = orElse (answerOf (trailerNumber file) 0) (recordsAnswer file (trailerOf file))
+planAnswer file = orElse (answerBy (trailerNumber file) 0) (recordsAnswer file (trailerOf file))

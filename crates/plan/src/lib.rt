@@ -41,30 +41,30 @@ fn wide(b: u8) -> u32
 }
 
 // The two bytes at a place as a number, the low one first.
-fn two_bytes(file: &[u8], at: usize) -> u32
+fn little_endian2(file: &[u8], at: usize) -> u32
     requires { ⌜ at + 2 ≤ length (now file) ⌝ }
     ensures { λ r. ⌜ (r ≡ littleEndian2 (now (file .entry)) at) × (r < 65536) ⌝ }
 {
     wide(file[at]) + 256 * wide(file[at + 1])
 }
 
-pub fn read_trailer(file: &[u8]) -> Trailer
+pub fn trailer_of(file: &[u8]) -> Trailer
     requires { ⌜ trailerSize ≤ length (now file) ⌝ }
     ensures { λ r. ⌜ r ≡ trailerOf (now (file .entry)) ⌝ }
 {
     let at = file.len() - TRAILER_SIZE;
-    let low = two_bytes(file, at);
-    let high = two_bytes(file, at + 2);
+    let low = little_endian2(file, at);
+    let high = little_endian2(file, at + 2);
     Trailer {
         start: low + 65536 * high,
-        count: two_bytes(file, at + 4),
+        count: little_endian2(file, at + 4),
         sx: wide(file[at + 6]),
         sy: wide(file[at + 7]),
     }
 }
 
 // The six plan numbers of the record at a place.
-pub fn flow_at(file: &[u8], at: usize) -> Flow
+pub fn flow_from(file: &[u8], at: usize) -> Flow
     requires { ⌜ at + recordSize ≤ length (now file) ⌝ }
     ensures { λ r. ⌜ r ≡ flowFrom (now (file .entry)) at ⌝ }
 {
@@ -73,13 +73,13 @@ pub fn flow_at(file: &[u8], at: usize) -> Flow
         ys: wide(file[at + 1]),
         xd: wide(file[at + 2]),
         yd: wide(file[at + 3]),
-        period: two_bytes(file, at + 4),
+        period: little_endian2(file, at + 4),
         burst: wide(file[at + 6]),
     }
 }
 
 // The last four bytes are the tag.
-fn is_tagged(file: &[u8]) -> bool
+fn tagged(file: &[u8]) -> bool
     requires { ⌜ trailerSize ≤ length (now file) ⌝ }
     ensures { λ r. ⌜ r ≡ tagged (now (file .entry)) ⌝ }
 {
@@ -137,10 +137,10 @@ fn trailer_number(file: &[u8]) -> u32
     if MOST_FILE < length {
         return 1;
     }
-    if !is_tagged(file) {
+    if !tagged(file) {
         return 2;
     }
-    header_number(read_trailer(file), length)
+    header_number(trailer_of(file), length)
 }
 
 // The record's last byte.
@@ -180,7 +180,7 @@ fn records_answer(file: &[u8], t: Trailer) -> Answer
     let count = t.count;
     for f in 0..count {
         let at = start + RECORD_SIZE * (f as usize);
-        let number = record_number(t.sx, t.sy, flow_at(file, at), last_at(file, at));
+        let number = record_number(t.sx, t.sy, flow_from(file, at), last_at(file, at));
         if number != 0 {
             return Answer::Refused { number, place: f };
         }
@@ -189,23 +189,23 @@ fn records_answer(file: &[u8], t: Trailer) -> Answer
 }
 
 // Reading a plan file: 0, or the refusal with its place.
-pub fn answer_of(file: &[u8]) -> Answer
+pub fn plan_answer(file: &[u8]) -> Answer
     ensures { λ r. ⌜ r ≡ planAnswer (now (file .entry)) ⌝ }
 {
     let number = trailer_number(file);
     if number != 0 {
         return Answer::Refused { number, place: 0 };
     }
-    records_answer(file, read_trailer(file))
+    records_answer(file, trailer_of(file))
 }
 
 // The notes of a plan file as the leading part of the file; on a refusal that part is empty.
 pub fn notes(file: &[u8]) -> &[u8]
     ensures { λ r. ⌜ now r ≡ notesOf (now (file .entry)) ⌝ }
 {
-    match answer_of(file) {
+    match plan_answer(file) {
         Answer::Done(_) => {
-            let start = read_trailer(file).start as usize;
+            let start = trailer_of(file).start as usize;
             &file[..start]
         }
         Answer::Refused {

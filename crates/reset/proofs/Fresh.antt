@@ -12,7 +12,7 @@ use Rattle.laws.proofs.Stands.{length-join, join-same, sets-append}
 use Rattle.laws.proofs.Grid.{getD-grid, join-rows, rows}
 use Rattle.flow.specs.Plan.{Plan, flowAt, noFlow}
 use Rattle.plan.specs.declared.Answer.the-variants.{Done}
-use Rattle.plan.specs.Refusals.{trailerNumber, answerOf, recordsAnswer, planAnswer}
+use Rattle.plan.specs.Refusals.{trailerNumber, answerBy, recordsAnswer, planAnswer}
 use Rattle.plan.proofs.Refusals.{or-else-done, answer-done}
 use Rattle.plan.specs.Layout.{trailerOf, flowFrom, recordAt, planOf}
 use Rattle.state.specs.Layout.{headerSize, flowSize, flowPlace, stateSize}
@@ -96,5 +96,5 @@ module _ (file : List ℕ) where
 pub done-number : (file : List ℕ) (v : ℕ) → planAnswer file ≡ Done v → trailerNumber file ≡ 0
 unfolding planAnswer
 done-number file v e =
-    let parts = or-else-done (answerOf (trailerNumber file) 0) (recordsAnswer file (trailerOf file)) v e in
+    let parts = or-else-done (answerBy (trailerNumber file) 0) (recordsAnswer file (trailerOf file)) v e in
     answer-done (trailerNumber file) 0 (parts .0) (parts .1)

@@ -56,7 +56,7 @@ fn put_flows(file: &[u8], start: usize, count: usize, w: &mut [u32])
         put_flow(
             w,
             state::HEADER_SIZE + state::FLOW_SIZE * f,
-            plan::flow_at(file, start + plan::RECORD_SIZE * f),
+            plan::flow_from(file, start + plan::RECORD_SIZE * f),
         );
     }
 }
@@ -84,7 +84,7 @@ fn reset_accepted(file: &[u8], w: &mut [u32]) -> Answer
     requires { ⌜ trailerNumber (now file) ≡ 0 ⌝ }
     ensures { λ r. ⌜ outcome r (now (w .exit)) ≡ freshOn (planOf (now (file .entry))) (now (w .entry)) ⌝ }
 {
-    let t = plan::read_trailer(file);
+    let t = plan::trailer_of(file);
     let count = t.count as usize;
     let routers = (t.sx * t.sy) as usize;
     let at = state::HEADER_SIZE + state::FLOW_SIZE * count;
@@ -104,7 +104,7 @@ fn reset_accepted(file: &[u8], w: &mut [u32]) -> Answer
 pub fn reset(file: &[u8], state: &mut [u32]) -> Answer
     ensures { λ r. ⌜ outcome r (now (state .exit)) ≡ resetOn (now (file .entry)) (now (state .entry)) ⌝ }
 {
-    match plan::answer_of(file) {
+    match plan::plan_answer(file) {
         Answer::Done(_) => reset_accepted(file, state),
         Answer::Refused { number, place } => Answer::Refused { number, place },
     }

@@ -11,7 +11,8 @@ use mir.Val.{Fits}
 use lib.Dec.{ltb}
 use lib.ListN.{length, length-append}
 use Rattle.laws.proofs.Cases.{test}
-use Rattle.table.specs.Decimal.{digit, digitsIn, decimal, mostDigits}
+use Rattle.table.specs.Decimal.{digit, digitsIn, decimal}
+use Rattle.table.specs.Inner.{mostDigits}
 
 -- enough places hold all digits
 places : (j k n : ℕ) → n < j → n < k → digitsIn j n ≡ digitsIn k n

@@ -5,9 +5,9 @@ use Prim.Native.Nat.{ℕ, _+_, _≤_}
 use native.Mathlib.Numerals.{add-one}
 use native.Mathlib.Omega.{arith}
 use Rattle.flow.specs.Plan.{Plan}
-use Rattle.window.specs.declared.Found.the-variants.{At}
+use Rattle.window.specs.declared.Window.the-variants.{At}
 use Rattle.window.specs.Window.{windowOf, mostWindow}
-use Rattle.window.proofs.Window.{window-least}
+use Rattle.window.proofs.Windows.{window-least}
 use Rattle.table.specs.Table.{line, lines}
 
 pub lines-none : (p : Plan) → lines p 0 ≡ []

@@ -18,7 +18,3 @@ digitsIn (suc k) n =
 -- n has no more than n + 1 digits
 unfoldable pub decimal : ℕ → List ℕ
 decimal n = digitsIn (n + 1) n
-
--- no 32-bit number has more digits
-abbrev pub mostDigits : ℕ
-mostDigits = 10

@@ -11,8 +11,8 @@ use Rattle.plan.specs.declared.Answer.{Answer}
 use Rattle.plan.specs.declared.Answer.the-variants.{Done, Refused}
 use Rattle.plan.specs.Layout.{planOf}
 use Rattle.plan.specs.Refusals.{planAnswer}
-use Rattle.window.specs.declared.Found.{Found}
-use Rattle.window.specs.declared.Found.the-variants.{At, Nothing}
+use Rattle.window.specs.declared.Window.{Window}
+use Rattle.window.specs.declared.Window.the-variants.{At, Nothing}
 use Rattle.window.specs.Window.{windowOf, loneWait}
 use Rattle.window.specs.Flight.{flightBound}
 use Rattle.table.specs.Decimal.{decimal}
@@ -34,42 +34,30 @@ abbrev pub portField : Port → List ℕ
 portField East = 32 ∷ 69 ∷ []
 portField South = 32 ∷ 83 ∷ []
 
--- a number, or `-` where 14 leaves none
-abbrev pub foundField : Found → List ℕ
-foundField (At n) = field n
-foundField Nothing = noField
+-- T, or `-` on 14
+abbrev pub windowField : Window → List ℕ
+windowField (At T) = field T
+windowField Nothing = noField
 
--- the lone wait, where there is a window
-abbrev pub waitOf : Flow → Found → Found
-waitOf f (At T) = At (loneWait f T)
-waitOf f Nothing = Nothing
+-- the lone wait, or `-` on 14
+abbrev pub waitField : Flow → Window → List ℕ
+waitField f (At T) = field (loneWait f T)
+waitField f Nothing = noField
 
 -- number, port, T, flight bound, lone wait
-unfoldable pub row : ℕ → Port → Found → ℕ → Found → List ℕ
-row f port window flight wait = decimal f ++ portField port ++ foundField window ++ field flight ++ foundField wait ++ newline
+unfoldable pub row : ℕ → Flow → Port → Window → ℕ → List ℕ
+row f flow port window flight = decimal f ++ portField port ++ windowField window ++ field flight ++ waitField flow window ++ newline
 
 -- the line of flow number f
 unfoldable pub line : Plan → ℕ → List ℕ
 line p f =
     let flow = flowAt p f in
-    row f (portOf (p .sx) flow) (windowOf p f) (flightBound (p .sx) (p .sy) flow) (waitOf flow (windowOf p f))
+    row f flow (portOf (p .sx) flow) (windowOf p f) (flightBound (p .sx) (p .sy) flow)
 
 -- the lines of the first n flows
 unfoldable pub lines : Plan → ℕ → List ℕ
 lines p zero = []
 lines p (suc n) = lines p n ++ line p n
-
--- no field is longer: a space and ten digits
-abbrev pub mostField : ℕ
-mostField = 11
-
--- no line is longer
-abbrev pub mostLine : ℕ
-mostLine = 64
-
--- no table is longer: a header and 256 lines
-abbrev pub mostTable : ℕ
-mostTable = 16448
 
 -- "flow port window flight wait"
 abbrev pub header : List ℕ

@@ -3,19 +3,17 @@ use flow::Flow;
 use flow::Port;
 use plan::Answer;
 use plan::Trailer;
-use window::Found;
+use window::Window;
 ghost use mathlib.Core.Path.{_≡_};
 ghost use mathlib.Core.List.{_∷_, []};
-ghost use Prim.Native.Nat.{ℕ, _+_, _*_, _<_, _≤_};
+ghost use Prim.Native.Nat.{_+_, _*_, _<_, _≤_};
 ghost use lib.ListN.{length};
 ghost use Rattle.laws.specs.Written.{Wrote};
-ghost use Rattle.flow.specs.Plan.{mostPeriod};
 ghost use Rattle.plan.specs.Layout.{planOf};
-ghost use Rattle.window.specs.declared.Found.the-variants.{At};
-ghost use Rattle.window.specs.Window.{mostWindow};
-ghost use Rattle.bounds.specs.Calls.{Opened};
-ghost use Rattle.table.specs.Decimal.{decimal, mostDigits};
-ghost use Rattle.table.specs.Table.{field, portField, foundField, waitOf, row, line, lines, refusedLine, tableOf, mostField, mostLine, mostTable};
+ghost use Rattle.bounds.specs.Inner.{Opened, FlowOf};
+ghost use Rattle.table.specs.Decimal.{decimal};
+ghost use Rattle.table.specs.Table.{field, noField, portField, windowField, waitField, row, line, lines, refusedLine, tableOf};
+ghost use Rattle.table.specs.Inner.{mostDigits, mostField, mostLine, mostTable, WaitFits};
 
 fn put_byte(out: &mut [u8], at: usize, b: u8) -> usize
     requires { ⌜ at < length (now out) ⌝ }
@@ -57,14 +55,34 @@ fn put_field(out: &mut [u8], at: usize, n: u32) -> usize
     put_decimal(out, next, n)
 }
 
-fn put_found(out: &mut [u8], at: usize, found: Found) -> usize
+fn put_none(out: &mut [u8], at: usize) -> usize
+    requires { ⌜ at + 2 ≤ length (now out) ⌝ }
+    ensures { λ r. ⌜ Wrote (now (out .entry)) at noField r (now (out .exit)) ⌝ }
+{
+    put_text(out, at, b" -")
+}
+
+// T, or `-` where there is no window.
+fn put_window(out: &mut [u8], at: usize, window: Window) -> usize
     requires { ⌜ at + mostField ≤ length (now out) ⌝ }
-    ensures { λ r. ⌜ Wrote (now (out .entry)) at (foundField found) r (now (out .exit)) ⌝ }
+    ensures { λ r. ⌜ Wrote (now (out .entry)) at (windowField window) r (now (out .exit)) ⌝ }
     ensures { λ r. ⌜ r ≤ at + mostField ⌝ }
 {
-    match found {
-        Found::At(n) => put_field(out, at, n),
-        Found::Nothing => put_text(out, at, b" -"),
+    match window {
+        Window::At(least) => put_field(out, at, least),
+        Window::Nothing => put_none(out, at),
+    }
+}
+
+// The lone wait, or `-` where there is no window.
+fn put_wait(out: &mut [u8], at: usize, flow: Flow, window: Window) -> usize
+    requires { ⌜ (WaitFits flow window) × (at + mostField ≤ length (now out)) ⌝ }
+    ensures { λ r. ⌜ Wrote (now (out .entry)) at (waitField flow window) r (now (out .exit)) ⌝ }
+    ensures { λ r. ⌜ r ≤ at + mostField ⌝ }
+{
+    match window {
+        Window::At(least) => put_field(out, at, window::lone_wait(flow, least)),
+        Window::Nothing => put_none(out, at),
     }
 }
 
@@ -83,46 +101,34 @@ fn put_row(
     out: &mut [u8],
     at: usize,
     f: u32,
+    flow: Flow,
     port: Port,
-    window: Found,
+    window: Window,
     flight: u32,
-    wait: Found,
 ) -> usize
-    requires { ⌜ at + mostLine ≤ length (now out) ⌝ }
-    ensures { λ r. ⌜ Wrote (now (out .entry)) at (row f port window flight wait) r (now (out .exit)) ⌝ }
+    requires { ⌜ (WaitFits flow window) × (at + mostLine ≤ length (now out)) ⌝ }
+    ensures { λ r. ⌜ Wrote (now (out .entry)) at (row f flow port window flight) r (now (out .exit)) ⌝ }
     ensures { λ r. ⌜ r ≤ at + mostLine ⌝ }
 {
     let a = put_decimal(out, at, f);
     let b = put_port(out, a, port);
-    let c = put_found(out, b, window);
+    let c = put_window(out, b, window);
     let d = put_field(out, c, flight);
-    let e = put_found(out, d, wait);
+    let e = put_wait(out, d, flow, window);
     put_byte(out, e, 10)
-}
-
-fn wait_of(flow: Flow, window: Found) -> Found
-    requires { ⌜ (1 ≤ flow .period) × (flow .period ≤ mostPeriod) ⌝ }
-    requires { ⌜ ((T : ℕ) → window ≡ At T → (1 ≤ T) × (T ≤ mostWindow)) ⌝ }
-    ensures { λ r. ⌜ r ≡ waitOf flow window ⌝ }
-{
-    match window {
-        Found::At(least) => Found::At(window::lone_wait(flow, least)),
-        Found::Nothing => Found::Nothing,
-    }
 }
 
 // The line of flow f of an accepted file.
 fn put_line(file: &[u8], t: Trailer, f: u32, out: &mut [u8], at: usize) -> usize
-    requires { ⌜ (Opened (now file) t) × ((f < t .count) × (at + mostLine ≤ length (now out))) ⌝ }
+    requires { ⌜ (FlowOf (now file) t f) × (at + mostLine ≤ length (now out)) ⌝ }
     ensures { λ r. ⌜ Wrote (now (out .entry)) at (line (planOf (now (file .entry))) f) r (now (out .exit)) ⌝ }
     ensures { λ r. ⌜ r ≤ at + mostLine ⌝ }
 {
-    let flow = bounds::flow_of(file, t, f);
-    let window = bounds::window_found(file, t, f);
-    let flight = bounds::flight_found(file, t, f);
+    let flow = bounds::flow_at(file, t, f);
+    let window = bounds::window_of(file, t, f);
+    let flight = bounds::flight_bound_of(file, t, f);
     let port = flow.port(t.sx);
-    let wait = wait_of(flow, window);
-    put_row(out, at, f, port, window, flight, wait)
+    put_row(out, at, f, flow, port, window, flight)
 }
 
 fn put_refused(out: &mut [u8], at: usize, number: u32, place: u32) -> usize
@@ -156,11 +162,11 @@ pub fn write(file: &[u8], out: &mut [u8]) -> usize
     ensures { λ r. ⌜ Wrote (now (out .entry)) 0 (tableOf (now (file .entry))) r (now (out .exit)) ⌝ }
     ensures { λ r. ⌜ r ≤ mostTable ⌝ }
 {
-    match plan::answer_of(file) {
+    match plan::plan_answer(file) {
         Answer::Refused { number, place } => put_refused(out, 0, number, place),
         Answer::Done(_) => {
             let next = put_text(out, 0, b"flow port window flight wait\n");
-            put_lines(file, plan::read_trailer(file), out, next)
+            put_lines(file, plan::trailer_of(file), out, next)
         }
     }
 }

@@ -1,4 +1,4 @@
--- Laws of offsets and neighbours for every size and all places below it. Rests on specs/Axis; nothing above opens that.
+-- Laws of offsets and neighbours for every size and all places below it. Rests on specs/Axis; nothing above opens that but the starred cases, which compute.
 use mathlib.Core.Path.{_≡_, sym}
 use mathlib.Core.Logic.{_⊎_, inl, inr, _≢_}
 use Prim.Native.Nat.{ℕ, _+_, _-_, _≤_, _<_}
@@ -96,7 +96,7 @@ previous-next size at l =
 pub next-of : (size to : ℕ) → to < size → (at : ℕ) × (at < size) × (next size at ≡ to)
 next-of size to l = (previous size to, previous-below size to l, next-previous size to l)
 
--- one place on, the offset is one more, or the ring is round
+-- one place on, the offset is one more, or the way is round
 pub offset-next : (size from at : ℕ) → from < size → at < size
     → ((offset size from at + 1 < size) × (offset size from (next size at) ≡ offset size from at + 1))
     ⊎ ((offset size from at + 1 ≡ size) × (offset size from (next size at) ≡ 0))
@@ -125,7 +125,8 @@ offset-short size from at to f l m short other =
     let apart : offset size from at ≢ offset size from to = λ e. other (offset-one size from at to f l m e) in omega arith
 
 -- the lap is the offset, but the size where that is 0
-pub lap-cases : (size from to : ℕ) → ((offset size from to ≡ 0) × (lap size from to ≡ size)) ⊎ ((1 ≤ offset size from to) × (lap size from to ≡ offset size from to))
+pub lap-cases : (size from to : ℕ)
+    → ((offset size from to ≡ 0) × (lap size from to ≡ size)) ⊎ ((1 ≤ offset size from to) × (lap size from to ≡ offset size from to))
 unfolding lap
 lap-cases size from to =
     elim (ℕ-discrete (offset size from to) 0) [

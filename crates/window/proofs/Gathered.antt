@@ -12,7 +12,7 @@ use Rattle.window.specs.declared.Conflict.{Conflict}
 use Rattle.window.specs.declared.Conflict.the-variants.{Free, Spread}
 use Rattle.window.specs.Conflict.{conflict}
 use Rattle.window.specs.Window.{share, shareOf, interference, leastFrom, mostWindow, windowOf}
-use Rattle.window.specs.Rivals.{rivalWords, demandOf, RivalsAmong, Kept, keptWith}
+use Rattle.window.specs.Rivals.{rivalWords, demandOf, RivalsAmong, Gathered, keepRival}
 use Rattle.window.proofs.Spread.{SpreadMost, none, some, spread-most}
 use Rattle.window.proofs.Rivals.{demand-none, with-demand, with-ok}
 
@@ -51,7 +51,7 @@ module _ (p : Plan) (f m : ℕ) (l : List ℕ) (n : ℕ) (h : RivalsAmong p f m 
     next-sum t = sum-more (shareOf p f t) m ∙ rw (h .sum t, ne-eqb m f other)
 
     among-by : (c : Conflict) → conflict (p .sx) (p .sy) (flowAt p f) (flowAt p m) ≡ c → SpreadMost c
-        → let k = keptWith l n (flowAt p m) c in RivalsAmong p f (m + 1) (k .words) (k .count)
+        → let k = keepRival l n (flowAt p m) c in RivalsAmong p f (m + 1) (k .words) (k .count)
     unfolding share
     among-by Free e none =
         record { words = h .words; few = omega (arith, h .few); room = h .room; sum = λ t. sym (rw e at (next-sum t) ∙ omega arith) }
@@ -68,7 +68,7 @@ module _ (p : Plan) (f m : ℕ) (l : List ℕ) (n : ℕ) (h : RivalsAmong p f m 
         }
 
     -- flow m with its conflict
-    pub among-more : (k : Kept) → k ≡ keptWith l n (flowAt p m) (conflict (p .sx) (p .sy) (flowAt p f) (flowAt p m))
+    pub among-more : (k : Gathered) → k ≡ keepRival l n (flowAt p m) (conflict (p .sx) (p .sy) (flowAt p f) (flowAt p m))
         → RivalsAmong p f (m + 1) (k .words) (k .count)
     among-more k e =
         rw e

@@ -8,9 +8,8 @@ use native.Mathlib.Omega.{arith}
 use borrow.Author.Tests.{ltb-true, ltb-false, lt-ltb, le-ltb}
 use lib.Dec.{ltb}
 use Rattle.laws.proofs.Cases.{test}
-use Rattle.window.specs.declared.Found.{Found}
-use Rattle.window.specs.declared.Found.the-variants.{At, Nothing}
-use Rattle.window.specs.Window.{leastFrom, NoLater}
+use Rattle.window.specs.declared.Window.the-variants.{At, Nothing}
+use Rattle.window.specs.Window.{leastFrom}
 
 -- no number from s on and below t is a window
 abbrev pub Tried : (ℕ → ℕ) → ℕ → ℕ → Type 0
@@ -62,33 +61,6 @@ at-least I (suc n) s t e =
           record { from = omega arith; to = omega arith; free = later .free; tried = tried-first I s t (ltb-false (I s) s taken) (later .tried) }
     ]
 
--- where it finds nothing, no number is a window
-pub none-tried : (I : ℕ → ℕ) (n s : ℕ) → leastFrom I n s ≡ Nothing → Tried I s (s + n)
-unfolding leastFrom
-none-tried I zero s e = λ k l m. absurd (omega arith)
-none-tried I (suc n) s e =
-    elim (test (ltb (I s) s)) [
-      | inl free ↦
-          let found : At s ≡ Nothing = rw free at e in
-          let never : _≡_ {A = ℕ} 0 1 = cc in absurd (omega arith)
-      | inr taken ↦
-          tried-first I s (s + suc n) (ltb-false (I s) s taken) (λ k l m. none-tried I n (s + 1) (rw taken at e) k l (omega arith))
-    ]
-
 -- a function that never falls leaps: no number up to I t is a window where t is none
 pub leap : (I : ℕ → ℕ) → ((k m : ℕ) → k ≤ m → I k ≤ I m) → (s t : ℕ) → Tried I s t → t ≤ I t → Tried I s (I t + 1)
 leap I mono s t h over k l m = elim (decLe t k) [ yes after ↦ omega (arith, mono t k after) | no before ↦ h k l (omega arith) ]
-
--- a smaller function finds its window no later
-pub least-mono : (I J : ℕ → ℕ) → ((k : ℕ) → J k ≤ I k) → (n s : ℕ) → NoLater (leastFrom J n s) (leastFrom I n s)
-least-mono I J below n s = go (leastFrom J n s) (leastFrom I n s) refl refl
-  where
-    go : (a b : Found) → leastFrom J n s ≡ a → leastFrom I n s ≡ b → NoLater a b
-    go a Nothing p q = tt
-    go (At t) (At u) p q =
-        let low : Least J n s t = at-least J n s t p in
-        let high : Least I n s u = at-least I n s u q in
-        elim (decLe t u) [ yes le ↦ le | no gt ↦ absurd (omega (arith, below u, low .tried u (high .from) (omega arith))) ]
-    go Nothing (At u) p q =
-        let high : Least I n s u = at-least I n s u q in
-        absurd (omega (arith, below u, none-tried J n s p u (high .from) (high .to)))

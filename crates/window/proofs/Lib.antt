@@ -1,10 +1,8 @@
 -- The laws of windows.
 pub mod Spread
 pub mod Least
-pub mod Interference
-pub mod Window
+pub mod Windows
 pub mod Rivals
 pub mod Rates
 pub mod Gathered
 pub mod Flight
-pub mod Cases

@@ -13,7 +13,7 @@ use Rattle.flow.specs.Plan.{mostFlows, mostBurst}
 use Rattle.bucket.proofs.Curve.{curve-span, curve-most}
 use Rattle.window.specs.declared.Conflict.the-variants.{Spread}
 use Rattle.window.specs.Window.{share, mostWindow}
-use Rattle.window.specs.Rivals.{rivalWords, rivalShare, demandOf, mostSpread, RivalOk, Rivals, keptWith}
+use Rattle.window.specs.Rivals.{rivalWords, rivalShare, demandOf, mostSpread, RivalOk, Rivals, keepRival}
 
 pub demand-time : (l : List ℕ) (n t u : ℕ) → t ≤ u → demandOf l n t ≤ demandOf l n u
 unfolding demandOf rivalShare
@@ -26,7 +26,9 @@ mostShare = 70000
 -- no rival adds more than its burst, the window and its spread
 pub rival-most : (l : List ℕ) (t k : ℕ) → RivalOk l k → t ≤ mostWindow → rivalShare l t k ≤ mostShare
 unfolding rivalShare
-rival-most l t k ok h = omega (arith, curve-most (getD l (rivalWords * k) 0) (getD l (rivalWords * k + 1) 0) (t - 1 + getD l (rivalWords * k + 2) 0), ok .burst-most, ok .spread-most)
+rival-most l t k ok h =
+    let most = curve-most (getD l (rivalWords * k) 0) (getD l (rivalWords * k + 1) 0) (t - 1 + getD l (rivalWords * k + 2) 0) in
+    omega (arith, ok .burst-most, ok .spread-most)
 
 pub demand-most : (l : List ℕ) (n t : ℕ) → ((k : ℕ) → k < n → RivalOk l k) → t ≤ mostWindow → demandOf l n t ≤ mostShare * n
 unfolding demandOf
@@ -43,7 +45,7 @@ demand-more l n t = sum-more _ n
 -- flow g as rival number n, with spread j
 module _ (l : List ℕ) (n : ℕ) (g : Flow) (j : ℕ) (room : rivalWords * n + 2 < length l) where
   abbrev pub with-g : List ℕ
-  with-g = keptWith l n g (Spread j) .words
+  with-g = keepRival l n g (Spread j) .words
 
   -- the words of the rivals before it stay
   with-below : (i : ℕ) → i < rivalWords * n → getD with-g i 0 ≡ getD l i 0
@@ -67,7 +69,9 @@ module _ (l : List ℕ) (n : ℕ) (g : Flow) (j : ℕ) (room : rivalWords * n + 
       simp (getD-set-other, getD-set-same)
 
   with-spread : getD with-g (rivalWords * n + 2) 0 ≡ j
-  with-spread = getD-set-same (set (set l (rivalWords * n) (g .burst)) (rivalWords * n + 1) (g .period)) (rivalWords * n + 2) j 0 (simp length-set (omega arith))
+  with-spread =
+      let before = set (set l (rivalWords * n) (g .burst)) (rivalWords * n + 1) (g .period) in
+      getD-set-same before (rivalWords * n + 2) j 0 (simp length-set (omega arith))
 
   share-below : (t k : ℕ) → k < n → rivalShare with-g t k ≡ rivalShare l t k
   unfolding rivalShare
@@ -88,18 +92,24 @@ module _ (l : List ℕ) (n : ℕ) (g : Flow) (j : ℕ) (room : rivalWords * n + 
       record {
         few = omega arith;
         long = simp length-set (omega arith);
-        rival-ok = λ k below.
-            elim (decLe n k) [
-              | yes last ↦
-                  let same : k ≡ n = omega arith in
-                  rw same (record { burst-least = rw with-burst some; burst-most = rw with-burst burst; period-least = rw with-period period; spread-most = rw with-spread spread })
-              | no before ↦
-                  let ok = r .rival-ok k (omega arith) in
-                  record {
-                    burst-least = rw (with-below (rivalWords * k) (omega arith)) (ok .burst-least);
-                    burst-most = rw (with-below (rivalWords * k) (omega arith)) (ok .burst-most);
-                    period-least = rw (with-below (rivalWords * k + 1) (omega arith)) (ok .period-least);
-                    spread-most = rw (with-below (rivalWords * k + 2) (omega arith)) (ok .spread-most);
-                  }
-            ];
+        rival-ok = λ k below. elim (decLe n k) [ yes last ↦ let same : k ≡ n = omega arith in rw same added | no before ↦ kept k (omega arith) ];
       }
+    where
+      added : RivalOk with-g n
+      added =
+          record {
+            burst-least = rw with-burst some;
+            burst-most = rw with-burst burst;
+            period-least = rw with-period period;
+            spread-most = rw with-spread spread;
+          }
+
+      kept : (k : ℕ) → k < n → RivalOk with-g k
+      kept k below =
+          let ok = r .rival-ok k below in
+          record {
+            burst-least = rw (with-below (rivalWords * k) (omega arith)) (ok .burst-least);
+            burst-most = rw (with-below (rivalWords * k) (omega arith)) (ok .burst-most);
+            period-least = rw (with-below (rivalWords * k + 1) (omega arith)) (ok .period-least);
+            spread-most = rw (with-below (rivalWords * k + 2) (omega arith)) (ok .spread-most);
+          }

@@ -1,22 +1,23 @@
--- Laws of spreads: a spread is small. Rests on specs/Conflict and the ring's laws.
+-- Laws of spreads: a spread is small. Rests on specs/Conflict and the laws of offsets.
 use mathlib.Core.Bool.{Bool, true, false, cond, _&&_}
 use mathlib.Core.Logic.{inl, inr}
 use Prim.Native.Nat.{ℕ, _-_, _*_, _≤_}
-use native.Mathlib.Nat.{le-trans, mul-le-mul-left, mul-le-mul-right}
+use native.Mathlib.Nat.{mul-le-mul}
 use native.Mathlib.Omega.{arith}
 use lib.Dec.{ltb, leb, eqb}
 use Rattle.laws.proofs.Cases.{test}
 use Rattle.torus.proofs.Axis.{offset-below}
 use Rattle.flow.specs.declared.Flow.{Flow}
+use Rattle.flow.specs.Plan.{mostSize}
 use Rattle.flow.specs.Offsets.{ΔX, ΔY, sameClient}
 use Rattle.window.specs.declared.Conflict.{Conflict}
 use Rattle.window.specs.declared.Conflict.the-variants.{Free, Spread}
-use Rattle.window.specs.Conflict.{Pair, rowsTo, columnsTo, conflict, conflictEast, conflictSouth}
-use Rattle.window.specs.Rivals.{mostSpread}
+use Rattle.window.specs.Conflict.{rowsTo, columnsTo, conflict, conflictEast, conflictSouth}
+use Rattle.window.specs.Rivals.{Pair, mostSpread}
 
 -- r rows of the torus, a lap round the row for each
-pub laps-most : (r sx : ℕ) → r ≤ 16 → sx ≤ 16 → r * sx ≤ mostSpread
-laps-most r sx h l = le-trans (mul-le-mul-right sx h) (mul-le-mul-left 16 l)
+pub laps-most : (r sx : ℕ) → r ≤ mostSize → sx ≤ mostSize → r * sx ≤ mostSpread
+laps-most r sx h l = mul-le-mul h l
 
 -- the conflict names no larger spread
 pub data SpreadMost : Conflict → Type 0 where
@@ -28,7 +29,7 @@ either true h k = h
 either false h k = k
 
 module _ (sx sy : ℕ) (f g : Flow) (h : Pair sx sy f g) where
-  rows-most : rowsTo sy f g ≤ 16
+  pub rows-most : rowsTo sy f g ≤ mostSize
   rows-most = omega (arith, offset-below sy (g .ys) (f .ys) (h .other .ys-on) (h .own .ys-on), h .sy-most)
 
   east-most : SpreadMost (conflictEast sx sy f g)

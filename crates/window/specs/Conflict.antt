@@ -1,12 +1,11 @@
 -- Which flows conflict with f at its source, and with what spread J (01, Windows).
 use mathlib.Core.Bool.{cond, _&&_}
-use Prim.Native.Nat.{ℕ, _-_, _*_, _≤_}
+use Prim.Native.Nat.{ℕ, _-_, _*_}
 use lib.Dec.{leb, eqb}
 use Rattle.torus.specs.Axis.{offset}
 use Rattle.flow.specs.declared.Flow.{Flow}
 use Rattle.flow.specs.declared.Port.{Port}
 use Rattle.flow.specs.declared.Port.the-variants.{East, South}
-use Rattle.flow.specs.Plan.{FlowOk, mostSize}
 use Rattle.flow.specs.Offsets.{ΔX, ΔY, portOf, sameClient}
 use Rattle.window.specs.declared.Conflict.{Conflict}
 use Rattle.window.specs.declared.Conflict.the-variants.{Free, Spread}
@@ -38,10 +37,3 @@ conflictAt sx sy f g South = conflictSouth sx sy f g
 -- how g, a flow other than f, conflicts with f at f's source
 unfoldable pub conflict : ℕ → ℕ → Flow → Flow → Conflict
 conflict sx sy f g = cond (sameClient f g) (Spread 0) (conflictAt sx sy f g (portOf sx f))
-
--- two flows of one plan, as far as their conflict goes
-pub record Pair (sx sy : ℕ) (f g : Flow) : Type 0 where
-  pub sx-most : sx ≤ mostSize
-  pub sy-most : sy ≤ mostSize
-  pub own : FlowOk sx sy f
-  pub other : FlowOk sx sy g

@@ -18,7 +18,3 @@ mostDeflections sx sy f = ΔY sy f
 -- flight bound: ΔX + ΔY + ΔY×Sx + 2
 abbrev pub flightBound : ℕ → ℕ → Flow → ℕ
 flightBound sx sy f = flightOf sx sy f (mostDeflections sx sy f)
-
--- no flight bound is larger: 15 columns and 15 rows, 16 columns round for each row, and 2
-abbrev pub mostFlight : ℕ
-mostFlight = 272

@@ -3,4 +3,3 @@ pub mod Conflict
 pub mod Window
 pub mod Rivals
 pub mod Flight
-pub mod Cases

@@ -1,15 +1,22 @@
--- The rivals of a flow, the flows that conflict with it, as the search keeps them: three words each, σ, P and J.
+-- What the inner functions ask and keep: two flows of a plan, and the rivals of a flow, those that conflict with it, as three words each, σ, P and J.
 use mathlib.Core.List.{List}
 use mathlib.Core.Path.{_≡_}
 use Prim.Native.Nat.{ℕ, _+_, _-_, _*_, _/_, _≤_, _<_}
 use lib.ListN.{length, getD, set}
 use Rattle.laws.specs.Bounded.{sumBelow}
 use Rattle.flow.specs.declared.Flow.{Flow}
-use Rattle.flow.specs.Plan.{Plan, mostFlows, mostBurst}
+use Rattle.flow.specs.Plan.{Plan, FlowOk, mostSize, mostFlows, mostBurst}
 use Rattle.bucket.specs.Curve.{curve}
 use Rattle.window.specs.declared.Conflict.{Conflict}
 use Rattle.window.specs.declared.Conflict.the-variants.{Free, Spread}
 use Rattle.window.specs.Window.{shareOf}
+
+-- two flows of one plan, as far as their conflict goes
+pub record Pair (sx sy : ℕ) (f g : Flow) : Type 0 where
+  pub sx-most : sx ≤ mostSize
+  pub sy-most : sy ≤ mostSize
+  pub own : FlowOk sx sy f
+  pub other : FlowOk sx sy g
 
 -- σ, P and J
 abbrev pub rivalWords : ℕ
@@ -60,14 +67,14 @@ pub record RivalsAmong (p : Plan) (f m : ℕ) (l : List ℕ) (n : ℕ) : Type 0 
   pub sum : (t : ℕ) → demandOf l n t ≡ sumBelow m (shareOf p f t)
 
 -- words and the number of rivals in them
-pub record Kept : Type 0 where
+pub record Gathered : Type 0 where
   pub count : ℕ
   pub words : List ℕ
 
-abbrev pub kept : ℕ → List ℕ → Kept
-kept n l = record { count = n; words = l }
+abbrev pub gathered : ℕ → List ℕ → Gathered
+gathered n l = record { count = n; words = l }
 
 -- after n rivals, flow g with its conflict
-abbrev pub keptWith : List ℕ → ℕ → Flow → Conflict → Kept
-keptWith l n g Free = kept n l
-keptWith l n g (Spread j) = kept (n + 1) (set (set (set l (rivalWords * n) (g .burst)) (rivalWords * n + 1) (g .period)) (rivalWords * n + 2) j)
+abbrev pub keepRival : List ℕ → ℕ → Flow → Conflict → Gathered
+keepRival l n g Free = gathered n l
+keepRival l n g (Spread j) = gathered (n + 1) (set (set (set l (rivalWords * n) (g .burst)) (rivalWords * n + 1) (g .period)) (rivalWords * n + 2) j)

@@ -1,16 +1,16 @@
 -- The interference I(t), the least window T and the lone wait (01, Windows).
 use mathlib.Core.Bool.{cond}
-use Prim.Native.Nat.{ℕ, zero, suc, _+_, _-_, _≤_}
+use Prim.Native.Nat.{ℕ, zero, suc, _+_, _-_}
 use lib.Dec.{ltb, eqb}
-use lib.ListN.{length, set}
+use lib.ListN.{length}
 use Rattle.laws.specs.Bounded.{sumBelow}
 use Rattle.flow.specs.declared.Flow.{Flow}
 use Rattle.flow.specs.Plan.{Plan, flowAt}
 use Rattle.bucket.specs.Curve.{curve}
 use Rattle.window.specs.declared.Conflict.{Conflict}
 use Rattle.window.specs.declared.Conflict.the-variants.{Free, Spread}
-use Rattle.window.specs.declared.Found.{Found}
-use Rattle.window.specs.declared.Found.the-variants.{At, Nothing}
+use Rattle.window.specs.declared.Window.{Window}
+use Rattle.window.specs.declared.Window.the-variants.{At, Nothing}
 use Rattle.window.specs.Conflict.{conflict}
 
 -- what g adds to I(t): σ + ⌊(t−1+J)/P⌋ if it conflicts with spread J
@@ -31,29 +31,14 @@ abbrev pub mostWindow : ℕ
 mostWindow = 65535
 
 -- the least t of the n numbers from t on with I t < t
-unfoldable pub leastFrom : (ℕ → ℕ) → ℕ → ℕ → Found
+unfoldable pub leastFrom : (ℕ → ℕ) → ℕ → ℕ → Window
 leastFrom I zero t = Nothing
 leastFrom I (suc n) t = let later = leastFrom I n (t + 1) in cond (ltb (I t) t) (At t) later
 
 -- T is the least window t from 1 to 65,535 with I(t) < t
-unfoldable pub windowOf : Plan → ℕ → Found
+unfoldable pub windowOf : Plan → ℕ → Window
 windowOf p f = leastFrom (interference p f) mostWindow 1
 
 -- a lone packet waits at most P + T − 2
 abbrev pub loneWait : Flow → ℕ → ℕ
 loneWait f T = f .period + T - 2
-
--- the first finding is no later than the second; no window is later than every window
-abbrev pub NoLater : Found → Found → Type 0
-NoLater (At t) (At u) = t ≤ u
-NoLater Nothing (At u) = ⊥
-NoLater found Nothing = Unit
-
--- a flow with another period
-abbrev pub flowWithPeriod : Flow → ℕ → Flow
-flowWithPeriod f period = record { xs = f .xs; ys = f .ys; xd = f .xd; yd = f .yd; period = period; burst = f .burst }
-
--- the plan with another period for flow number g
-abbrev pub withPeriod : Plan → ℕ → ℕ → Plan
-withPeriod p g period =
-    record { sx = p .sx; sy = p .sy; flows = set (p .flows) g (flowWithPeriod (flowAt p g) period) }

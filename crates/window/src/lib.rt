@@ -3,11 +3,11 @@ ghost use mathlib.Core.Path.{_≡_};
 ghost use Prim.Native.Nat.{_+_, _*_, _<_, _≤_};
 ghost use lib.Dec.{leb};
 ghost use lib.ListN.{length};
-ghost use Rattle.window.specs.Conflict.{Pair, conflict, conflictEast, conflictSouth};
+ghost use Rattle.window.specs.Conflict.{conflict, conflictEast, conflictSouth};
 ghost use Rattle.window.specs.Window.{mostWindow, leastFrom, loneWait};
 ghost use Rattle.flow.specs.Plan.{FlowOk, mostSize, mostPeriod};
-ghost use Rattle.window.specs.Flight.{flightBound, mostFlight};
-ghost use Rattle.window.specs.Rivals.{rivalWords, rivalShare, rivalRate, ratesOf, wholeLink, demandOf, Rivals, RivalOk, kept, keptWith};
+ghost use Rattle.window.specs.Flight.{flightBound};
+ghost use Rattle.window.specs.Rivals.{Pair, rivalWords, rivalShare, rivalRate, ratesOf, wholeLink, demandOf, Rivals, RivalOk, gathered, keepRival};
 use flow::Flow;
 use flow::Port;
 
@@ -28,8 +28,8 @@ pub enum Conflict {
     Spread(u32),
 }
 
-// The least window, or the finding that there is none.
-pub enum Found {
+// The window T of a flow, or that there is none.
+pub enum Window {
     At(u32),
     Nothing,
 }
@@ -97,7 +97,7 @@ fn rival_share(rivals: &[u32], k: usize, t: u32) -> u32
 }
 
 // What the first n rivals add to I(t).
-fn demand(rivals: &[u32], n: usize, t: u32) -> u32
+fn demand_of(rivals: &[u32], n: usize, t: u32) -> u32
     requires { ⌜ (Rivals (now rivals) n) × ((1 ≤ t) × (t ≤ mostWindow)) ⌝ }
     ensures { λ r. ⌜ r ≡ demandOf (now (rivals .entry)) n t ⌝ }
 {
@@ -132,30 +132,30 @@ fn fill_link(rivals: &[u32], n: usize) -> bool
 }
 
 // The search for the least window. Where the rivals leave none at t, none is left up to their demand.
-fn search(rivals: &[u32], n: usize) -> Found
+fn search(rivals: &[u32], n: usize) -> Window
     requires { ⌜ Rivals (now rivals) n ⌝ }
     ensures { λ r. ⌜ r ≡ leastFrom (demandOf (now (rivals .entry)) n) mostWindow 1 ⌝ }
 {
     let mut t = 1u32;
     loop {
         if MOST_WINDOW < t {
-            break Found::Nothing;
+            break Window::Nothing;
         }
-        let d = demand(rivals, n, t);
+        let d = demand_of(rivals, n, t);
         if d < t {
-            break Found::At(t);
+            break Window::At(t);
         }
         t = d + 1;
     }
 }
 
 // The least window that the n rivals leave. Where their rates fill the link there is none.
-pub fn least_window(rivals: &[u32], n: usize) -> Found
+pub fn least_window(rivals: &[u32], n: usize) -> Window
     requires { ⌜ Rivals (now rivals) n ⌝ }
     ensures { λ r. ⌜ r ≡ leastFrom (demandOf (now (rivals .entry)) n) mostWindow 1 ⌝ }
 {
     if fill_link(rivals, n) {
-        return Found::Nothing;
+        return Window::Nothing;
     }
     search(rivals, n)
 }
@@ -163,7 +163,7 @@ pub fn least_window(rivals: &[u32], n: usize) -> Found
 // Flow g with its conflict, after n rivals: three words more if it is one.
 pub fn keep_rival(rivals: &mut [u32], n: usize, g: Flow, c: Conflict) -> usize
     requires { ⌜ rivalWords * n + 2 < length (now rivals) ⌝ }
-    ensures { λ r. ⌜ kept r (now (rivals .exit)) ≡ keptWith (now (rivals .entry)) n g c ⌝ }
+    ensures { λ r. ⌜ gathered r (now (rivals .exit)) ≡ keepRival (now (rivals .entry)) n g c ⌝ }
 {
     match c {
         Conflict::Free => n,
@@ -180,7 +180,7 @@ pub fn keep_rival(rivals: &mut [u32], n: usize, g: Flow, c: Conflict) -> usize
 // The most cycles of a flow's packet from entry to exit, with 2.
 pub fn flight_bound(sx: u32, sy: u32, f: Flow) -> u32
     requires { ⌜ (FlowOk sx sy f) × ((sx ≤ mostSize) × (sy ≤ mostSize)) ⌝ }
-    ensures { λ r. ⌜ (r ≡ flightBound sx sy f) × (r ≤ mostFlight) ⌝ }
+    ensures { λ r. ⌜ r ≡ flightBound sx sy f ⌝ }
 {
     let dx = f.offset_x(sx);
     let dy = f.offset_y(sy);

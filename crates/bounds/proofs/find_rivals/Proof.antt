@@ -17,20 +17,21 @@ Inv-loop file t f rivals₀ own count n₀ g₀ rivals n g =
 abbrev μ-loop : tie.MeasureT-loop
 μ-loop file t f rivals₀ own count n₀ g₀ rivals n g = count - g
 
-flow-of-requires : tie.Need-flow-of-requires Inv-loop μ-loop
-flow-of-requires c κs = let p = c .before .before .pre in (p .0, p .1 .0)
-
 loop-holds : tie.Need-loop-holds Inv-loop μ-loop
-loop-holds c = (omega arith, (omega arith, among-none _ _ _ (rw (opened-count _ _ (c .before .before .before .pre .0)) (c .before .before .before .pre .1 .1))))
+loop-holds c =
+    let p = c .before .before .before .pre in
+    (omega arith, (omega arith, among-none _ _ _ (rw (opened-count _ _ (p .0 .opened)) (p .1))))
 
 meet-requires : tie.Need-meet-requires Inv-loop μ-loop
 meet-requires c κs =
-    let p = c .before .before .before .before .before .before .pre in
-    ((p .0, (p .1 .0, c .before .loop-test .taken)), (c .before .before .before .flow-of .ensures, c .before .before .loop .inv .1 .1))
+    let k = c .before .before .before .before .before .before .pre .0 in
+    ((k, record { opened = k .opened; below = c .before .loop-test .taken }), (c .before .before .before .flow-at .ensures, c .before .before .loop .inv .1 .1))
 
 loop-again : tie.Need-loop-again Inv-loop μ-loop
 loop-again c =
-    (omega arith, (c .before .before .meet .kept .1 .1 .1 .1 .1 .0 ∙ c .before .before .before .before .before .loop .inv .1 .0, c .before .before .meet .ensures))
+    let met = c .before .before .meet in
+    let same = met .kept .1 .1 .1 .1 .1 .0 in
+    (omega arith, (same ∙ c .before .before .before .before .before .loop .inv .1 .0, met .ensures))
 
 same-length : tie.Need-same-length Inv-loop μ-loop
 same-length c = c .before .loop .inv .1 .0
@@ -42,4 +43,5 @@ returns c =
 
 pub find-rivals-spec : {M : Type 1} → statement M
 find-rivals-spec =
-    tie.close (tie.spec Inv-loop μ-loop flow-of-requires loop-holds meet-requires (λ c. omega arith) (λ c. omega arith) loop-again same-length returns)
+    tie.close (tie.spec Inv-loop μ-loop (λ c κs. c .before .before .pre .0) loop-holds meet-requires (λ c. omega arith)
+    (λ c. omega arith) loop-again same-length returns)

@@ -1,10 +1,14 @@
 -- `meet`: f itself is no rival; another flow is kept with its conflict, by the laws of gathering.
 use borrow.Author.Needs.{needs}
+use mathlib.Core.Path.{_≡_, _∙_}
 use native.Mathlib.Omega.{arith}
+use Rattle.flow.specs.Plan.{flowAt}
+use Rattle.plan.specs.Layout.{planOf}
 use Rattle.plan.proofs.Ranges.{Bytes}
-use Rattle.window.specs.Rivals.{kept}
+use Rattle.window.specs.Conflict.{conflict}
+use Rattle.window.specs.Rivals.{gathered}
 use Rattle.window.proofs.Gathered.{among-self, among-more}
-use Rattle.bounds.proofs.Opened.{opened-pair, opened-ok, opened-count, opened-sx, opened-sy}
+use Rattle.bounds.proofs.Opened.{flow-pair, opened-ok, opened-count, opened-sx, opened-sy}
 use Rattle.bounds.proofs.meet.Statement.{statement}
 use Rattle.bounds.proofs.meet.Tie as tie
 
@@ -17,29 +21,36 @@ returns c = among-self _ _ _ _ _ (c .before .before .before .pre .1 .1) (c .if1 
 conflict-of-requires : tie.Need-conflict-of-requires
 conflict-of-requires c κs =
     let p = c .before .before .before .before .pre in
-    rw (p .1 .0, c .flow-of .ensures)
-    (opened-pair _ _ (p .0 .0) (bytes (c .before .before .before)) _ _ (p .0 .1 .0) (p .0 .1 .1))
+    rw (p .1 .0, c .flow-at .ensures) (flow-pair _ _ _ (p .0 .0) (bytes (c .before .before .before)) _ (p .0 .1))
+
+-- the conflict of the two flows of the plan
+met : (c : tie.After-conflict-of) → let a = c .before .before .before .before .before .args in let p = planOf (a .file .now) in
+    c .conflict-of .result ≡ conflict (p .sx) (p .sy) (flowAt p (a .f)) (flowAt p (a .g))
+met c =
+    let p = c .before .before .before .before .before .pre in
+    let o = p .0 .0 .opened in
+    c .conflict-of .ensures ∙ rw (opened-sx _ _ o, opened-sy _ _ o, ← (p .1 .0), ← (c .before .flow-at .ensures))
 
 keep-rival-requires : tie.Need-keep-rival-requires
 keep-rival-requires c κs =
     let p = c .before .before .before .before .before .before .pre in
     let among = p .1 .1 in
-    omega (arith, opened-count _ _ (p .0 .0), among .few, among .room)
+    omega (arith, opened-count _ _ (p .0 .0 .opened), p .0 .1 .below, among .few, among .room)
 
 returns-2 : tie.Need-returns-2
 returns-2 c =
-    let s = c .before .before .before .before .before .before .before .before .before in
-    let p = s .pre in
-    let o = p .0 .0 in
-    let count = opened-count _ _ o in
+    let keep = c .before .before in
+    let decided = keep .before .before in
+    let start = decided .before .before .before .before .before in
+    let p = start .pre in
+    let count = opened-count _ _ (p .0 .0 .opened) in
     among-more _ _ _ _ _ (p .1 .1)
-    (opened-ok _ _ o (bytes (c .before .before .before .before .before .before .before .before)))
-    (rw count (p .0 .1 .0))
-    (rw count (p .0 .1 .1))
-    (c .before .before .before .before .before .before .if1 .left)
-    (kept (c .before .before .keep-rival .result) (c .before .before .keep-rival .last .0))
-    (rw (c .before .before .before .before .conflict-of .ensures, c .before .before .before .before .before .flow-of .ensures, p .1 .0, ← (opened-sx _ _ o), ← (opened-sy _ _ o))
-    at (c .before .before .keep-rival .ensures))
+    (opened-ok _ _ (p .0 .0 .opened) (bytes (decided .before .before .before .before)))
+    (rw count (p .0 .0 .below))
+    (rw count (p .0 .1 .below))
+    (decided .before .before .if1 .left)
+    (gathered (keep .keep-rival .result) (keep .keep-rival .last .0))
+    (rw (met decided, decided .before .flow-at .ensures) at (keep .keep-rival .ensures))
 
 pub meet-spec : {M : Type 1} → statement M
 meet-spec =

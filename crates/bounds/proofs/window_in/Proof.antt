@@ -8,8 +8,9 @@ use Rattle.bounds.proofs.window_in.Tie as tie
 
 returns : tie.Need-returns
 returns c =
-    let p = c .before .before .before .before .before .before .before .before .pre in
-    c .least-window .ensures ∙ among-all _ _ _ _ (rw (opened-count _ _ (p .0)) (c .before .before .before .before .find-rivals .ensures))
+    let found = c .before .before .before .before in
+    let o = found .before .before .before .before .pre .0 .opened in
+    c .least-window .ensures ∙ among-all _ _ _ _ (rw (opened-count _ _ o) (found .find-rivals .ensures))
 
 pub window-in-spec : {M : Type 1} → statement M
 window-in-spec = tie.close (tie.spec (λ c κs. search needs) (λ c κs. search needs) (λ c. search needs) returns)

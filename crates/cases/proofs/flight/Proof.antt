@@ -7,4 +7,6 @@ use Rattle.cases.proofs.flight.Statement.{statement}
 use Rattle.cases.proofs.flight.Tie as tie
 
 pub flight-spec : {M : Type 1} → statement M
-flight-spec = tie.close (tie.spec (λ c. sym (length-take-le _ _ (omega arith))) (λ c. search needs) (λ c. search needs) (λ c. search needs) (λ c. search needs))
+flight-spec =
+    tie.close (tie.spec (λ c. sym (length-take-le _ _ (omega arith))) (λ c. search needs) (λ c. search needs) (λ c. search needs)
+    (λ c. search needs))

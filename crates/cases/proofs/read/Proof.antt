@@ -7,4 +7,6 @@ use Rattle.cases.proofs.read.Statement.{statement}
 use Rattle.cases.proofs.read.Tie as tie
 
 pub read-spec : {M : Type 1} → statement M
-read-spec = tie.close (tie.spec (λ c. sym (length-take-le _ _ (omega arith))) (λ c. search needs) (λ c. search needs) (λ c. search needs) (λ c. search needs))
+read-spec =
+    tie.close (tie.spec (λ c. sym (length-take-le _ _ (omega arith))) (λ c. search needs) (λ c. search needs) (λ c. search needs)
+    (λ c. search needs))

@@ -7,4 +7,7 @@ use Rattle.cases.proofs.reset_first.Statement.{statement}
 use Rattle.cases.proofs.reset_first.Tie as tie
 
 pub reset-first-spec : {M : Type 1} → statement M
-reset-first-spec = tie.close (tie.spec (λ c. search needs) (λ c. sym (length-take-le _ _ (omega arith))) (λ c. search needs) (λ c. sym (length-take-le _ _ (omega arith))) (λ c. search needs) (λ c. search needs) (λ c. search needs) (λ c. search needs) (λ c. search needs))
+reset-first-spec =
+    tie.close (tie.spec (λ c. search needs) (λ c. sym (length-take-le _ _ (omega arith))) (λ c. search needs)
+    (λ c. sym (length-take-le _ _ (omega arith))) (λ c. search needs) (λ c. search needs) (λ c. search needs) (λ c. search needs)
+    (λ c. search needs))

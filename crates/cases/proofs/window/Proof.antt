@@ -7,4 +7,6 @@ use Rattle.cases.proofs.window.Statement.{statement}
 use Rattle.cases.proofs.window.Tie as tie
 
 pub window-spec : {M : Type 1} → statement M
-window-spec = tie.close (tie.spec (λ c. sym (length-take-le _ _ (omega arith))) (λ c. search needs) (λ c. search needs) (λ c. search needs) (λ c. search needs))
+window-spec =
+    tie.close (tie.spec (λ c. sym (length-take-le _ _ (omega arith))) (λ c. search needs) (λ c. search needs) (λ c. search needs)
+    (λ c. search needs))

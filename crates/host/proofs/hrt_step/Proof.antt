@@ -9,6 +9,4 @@ returns : tie.Need-returns
 returns c = rw (c .answer-word .ensures) (ap inWords (c .before .before .before .before .before .step .ensures))
 
 pub hrt-step-spec : {M : Type 1} → statement M
-hrt-step-spec =
-    tie.close
-    (tie.spec (λ c κs. search needs) (λ c κs. search needs) (λ c. search needs) (λ c. search needs) returns)
+hrt-step-spec = tie.close (tie.spec (λ c κs. search needs) (λ c κs. search needs) (λ c. search needs) (λ c. search needs) returns)

@@ -1,13 +1,12 @@
 -- `window_word`: by the cases of the answer; a window's refusal number is small.
 use borrow.Author.Needs.{needs}
 use native.Mathlib.Omega.{arith}
-use Rattle.bounds.proofs.Numbers.{refused-most}
 use Rattle.host.proofs.window_word.Statement.{statement}
 use Rattle.host.proofs.window_word.Tie as tie
 
 add-result : tie.Need-add-result
 add-result c =
-    let most = refused-most (rw (c .before .a2 .given .1) at (c .before .before .before .pre)) in
+    let most = rw (c .before .a2 .given .1) at (c .before .before .before .pre) in
     omega arith
 
 returns-2 : tie.Need-returns-2

@@ -1,56 +1,32 @@
 -- `in_north`: the definition's own tests; every sum is small.
-use borrow.Author.Tests.{le-leb, lt-leb, eq-eqb, ne-eqb}
 use Prim.Native.Nat.{_*_, _≤_, _<_}
-use native.Mathlib.Omega.{arith}
-use Rattle.flow.specs.Plan.{mostSize}
-use Rattle.place.proofs.InPlace.{across-below, laps-most}
 use borrow.Author.Needs.{needs}
+use native.Mathlib.Omega.{arith}
+use Rattle.laws.proofs.Cases.{cases}
+use Rattle.flow.specs.Offsets.{ΔX}
+use Rattle.flow.specs.Plan.{mostSize}
+use Rattle.place.proofs.InPlace.{small}
 use Rattle.place.proofs.in_north.Statement.{statement}
 use Rattle.place.proofs.in_north.Tie as tie
 
-returns : tie.Need-returns
-returns c = rw (ne-eqb _ _ (c .if1 .taken))
-
-returns-2 : tie.Need-returns-2
-returns-2 c = rw (eq-eqb _ _ (c .before .if1 .left), lt-leb _ _ (c .if2 .taken))
-
 returns-3 : tie.Need-returns-3
-returns-3 c = rw (← (c .before .offset-y .ensures), eq-eqb _ _ (c .before .before .before .if1 .left), le-leb _ _ (c .before .before .if2 .left), lt-leb _ _ (c .if3 .taken))
+returns-3 c = search (cases, ← (c .before .offset-y .ensures))
 
 returns-4 : tie.Need-returns-4
-returns-4 c = rw (← (c .before .before .offset-y .ensures), eq-eqb _ _ (c .before .before .before .before .if1 .left), le-leb _ _ (c .before .before .before .if2 .left), le-leb _ _ (c .before .if3 .left), lt-leb _ _ (c .if4 .taken))
+returns-4 c = search (cases, ← (c .before .before .offset-y .ensures))
 
 -- the summands are small
-small : (c : tie.After-offset-x) → let a = c .before .before .before .before .before .before .before .args in
-    (c .offset-x .result < mostSize) × (a .d * a .sx ≤ mostSize * mostSize)
-small c =
-    let ok = c .before .before .before .before .before .before .before .pre .0 in
-    let near = across-below _ _ _ ok in
-    (rw (c .offset-x .ensures) (omega arith), laps-most _ _ (omega arith) (omega arith))
-
-add-result : tie.Need-add-result
-add-result c = omega (arith, small c)
-
-mul-result : tie.Need-mul-result
-mul-result c = omega (arith, small c)
-
-add-result-2 : tie.Need-add-result-2
-add-result-2 c = omega (arith, small c)
+summands : (c : tie.Else4) → let a = c .before .before .before .before .before .before .args in
+    (ΔX (a .sx) (a .f) < mostSize) × (a .d * a .sx ≤ mostSize * mostSize)
+summands c =
+    let start = c .before .before .before .before .before .before in
+    small _ _ _ _ _ (start .pre .0) (omega arith)
 
 returns-5 : tie.Need-returns-5
-returns-5 c = rw (← (c .before .before .before .offset-y .ensures), ← (c .offset-x .ensures), eq-eqb _ _ (c .before .before .before .before .before .if1 .left), le-leb _ _ (c .before .before .before .before .if2 .left), le-leb _ _ (c .before .before .if3 .left), le-leb _ _ (c .before .if4 .left))
+returns-5 c = search (cases, ← (c .before .before .before .offset-y .ensures), ← (c .offset-x .ensures))
 
 pub in-north-spec : {M : Type 1} → statement M
 in-north-spec =
-    tie.close
-    (tie.spec
-    returns
-    returns-2
-    (λ c κs. search needs)
-    returns-3
-    returns-4
-    (λ c κs. search needs)
-    add-result
-    mul-result
-    add-result-2
-    returns-5)
+    tie.close (tie.spec (λ c. search cases) (λ c. search cases) (λ c κs. search needs) returns-3 returns-4 (λ c κs. search needs)
+    (λ c. omega (arith, summands (c .before))) (λ c. omega (arith, summands (c .before)))
+    (λ c. omega (arith, summands (c .before))) returns-5)

@@ -26,7 +26,7 @@ loop-again c =
     let more =
     sets-more flowSize (l .f) (λ f. freshWords (flowFrom (a .file .now) (a .start + recordSize * f))) (λ i. refl) (a .w .now) (l .w) headerSize (l .inv .1 .1)
     in
-    (omega arith, (c .before .before .put-flow .kept .0 ∙ l .inv .1 .0, rw (c .before .before .put-flow .ensures, c .before .before .before .flow-at .ensures) more))
+    (omega arith, (c .before .before .put-flow .kept .0 ∙ l .inv .1 .0, rw (c .before .before .put-flow .ensures, c .before .before .before .flow-from .ensures) more))
 
 returns : tie.Need-returns Inv-loop μ-loop
 returns c =

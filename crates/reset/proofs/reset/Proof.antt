@@ -8,15 +8,15 @@ use Rattle.reset.proofs.reset.Statement.{statement}
 use Rattle.reset.proofs.reset.Tie as tie
 
 reset-accepted-requires : tie.Need-reset-accepted-requires
-reset-accepted-requires c κs = done-number _ _ (sym (c .before .before .before .answer-of .ensures) ∙ c .before .enum-told .given .1)
+reset-accepted-requires c κs = done-number _ _ (sym (c .before .before .before .plan-answer .ensures) ∙ c .before .enum-told .given .1)
 
 returns : tie.Need-returns
 unfolding resetOn unlessRefused
-returns c = rw (← (c .before .before .before .before .before .before .answer-of .ensures), c .before .before .before .before .enum-told .given .1) (c .before .before .reset-accepted .ensures)
+returns c = rw (← (c .before .before .before .before .before .before .plan-answer .ensures), c .before .before .before .before .enum-told .given .1) (c .before .before .reset-accepted .ensures)
 
 returns-2 : tie.Need-returns-2
 unfolding resetOn unlessRefused
-returns-2 c = rw (← (c .before .before .before .answer-of .ensures), c .before .number .given .1)
+returns-2 c = rw (← (c .before .before .before .plan-answer .ensures), c .before .number .given .1)
 
 pub reset-spec : {M : Type 1} → statement M
 reset-spec =

@@ -17,11 +17,11 @@ use Rattle.reset.proofs.reset_accepted.Statement.{statement}
 use Rattle.reset.proofs.reset_accepted.Tie as tie
 
 -- the trailer frames the file
-framed : (c : tie.After-read-trailer) → Framed (c .read-trailer .result) (length (c .before .before .before .args .file .now))
-framed c = rw (c .read-trailer .ensures) (trailed (c .before .before .before .args .file .now) (c .before .before .before .pre) .frame)
+framed : (c : tie.After-trailer-of) → Framed (c .trailer-of .result) (length (c .before .before .before .args .file .now))
+framed c = rw (c .trailer-of .ensures) (trailed (c .before .before .before .args .file .now) (c .before .before .before .pre) .frame)
 
 -- there are at most 16×16 routers
-area : (c : tie.After-read-trailer) → c .read-trailer .result .sx * c .read-trailer .result .sy ≤ mostSize * mostSize
+area : (c : tie.After-trailer-of) → c .trailer-of .result .sx * c .trailer-of .result .sy ≤ mostSize * mostSize
 area c = let f = framed c in mul-le-mul (f .sx-ok .most) (f .sy-ok .most)
 
 mul-routers : tie.Need-mul-routers
@@ -39,7 +39,7 @@ add-if1 c = omega (arith, area (c .before .before))
 returns : tie.Need-returns
 returns c =
     let file = c .before .before .before .before .before .before .args .file .now in
-    let short : length (c .before .before .before .before .before .before .args .w .now) < planSize (planOf file) = rw (size-is file, ← (c .before .before .before .read-trailer .ensures)) (c .if1 .taken) in
+    let short : length (c .before .before .before .before .before .before .args .w .now) < planSize (planOf file) = rw (size-is file, ← (c .before .before .before .trailer-of .ensures)) (c .if1 .taken) in
     rw (lt-ltb _ _ short)
 
 put-flows-requires : tie.Need-put-flows-requires
@@ -51,8 +51,8 @@ returns-2 : tie.Need-returns-2
 returns-2 c =
     let file = c .before .before .before .before .before .before .before .before .before .before .before .before .before .before .before .before .before .before .before .args .file .now in
     let w = c .before .before .before .before .before .before .before .before .before .before .before .before .before .before .before .before .before .before .before .args .w .now in
-    let long : planSize (planOf file) ≤ length w = rw (size-is file, ← (c .before .before .before .before .before .before .before .before .before .before .before .before .before .before .before .before .read-trailer .ensures)) (c .before .before .before .before .before .before .before .before .before .before .before .before .before .if1 .left) in
-    rw (le-ltb (length w) (planSize (planOf file)) long, c .before .before .clear .ensures, c .before .before .before .before .before .before .put-flows .ensures, c .before .before .before .before .before .before .before .before .before .before .before .put-header .ensures, c .before .before .before .before .before .before .before .before .before .before .before .before .before .before .before .before .read-trailer .ensures)
+    let long : planSize (planOf file) ≤ length w = rw (size-is file, ← (c .before .before .before .before .before .before .before .before .before .before .before .before .before .before .before .before .trailer-of .ensures)) (c .before .before .before .before .before .before .before .before .before .before .before .before .before .if1 .left) in
+    rw (le-ltb (length w) (planSize (planOf file)) long, c .before .before .clear .ensures, c .before .before .before .before .before .before .put-flows .ensures, c .before .before .before .before .before .before .before .before .before .before .before .put-header .ensures, c .before .before .before .before .before .before .before .before .before .before .before .before .before .before .before .before .trailer-of .ensures)
     (ap (outcome (Done 0)) (file-sets file w long))
 
 pub reset-accepted-spec : {M : Type 1} → statement M

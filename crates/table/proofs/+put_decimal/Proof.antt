@@ -46,16 +46,17 @@ put-decimal-requires t c κs =
 
 put-byte-requires-2 : (t : ℕ) → lts.Need-put-byte-requires-2 (put-byte.Asked, put-byte.Learnt, below t, put-decimal.Post) (at t) put-decimal.Post
 put-byte-requires-2 t c κs =
-    let wrote = c .before .before .before .put-decimal .ensures .0 in
-    omega (arith, longer _ (c .before .before .before .before .before .if1 .left), c .before .before .before .before .before .before .before .pre .1, wrote .place, wrote-length wrote)
+    let tenth = c .before .before .before in
+    let wrote = tenth .put-decimal .ensures .0 in
+    omega (arith, longer _ (tenth .before .before .if1 .left), tenth .before .before .before .before .pre .1, wrote .place, wrote-length wrote)
 
 returns-2 : (t : ℕ) → lts.Need-returns-2 (put-byte.Asked, put-byte.Learnt, below t, put-decimal.Post) (at t) put-decimal.Post
 returns-2 t c =
-    let s = c .before .before .before .before .before .before .before .before .before .before in
-    let more = decimal-more _ (c .before .before .before .before .before .before .before .before .if1 .left) in
-    let wrote = wrote-then (c .before .before .before .before .before .before .put-decimal .ensures .0) (c .before .before .put-byte2 .ensures) in
+    let tenth = c .before .before .before .before .before .before in
+    let more = decimal-more _ (tenth .before .before .if1 .left) in
+    let wrote = wrote-then (tenth .put-decimal .ensures .0) (c .before .before .put-byte2 .ensures) in
     let whole = rw (← more) at wrote in
-    (whole, omega (arith, whole .place, word-digits _ (s .fits .n)))
+    (whole, omega (arith, whole .place, word-digits _ (tenth .before .before .before .before .fits .n)))
 
 pub +put-decimal-spec : {M : Type 1} → statement M
 +put-decimal-spec =

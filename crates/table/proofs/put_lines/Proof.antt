@@ -5,7 +5,8 @@ use native.Mathlib.Omega.{arith}
 use Rattle.laws.specs.Written.{Wrote}
 use Rattle.laws.proofs.Written.{wrote-none, wrote-then, wrote-length}
 use Rattle.plan.specs.Layout.{planOf}
-use Rattle.table.specs.Table.{lines, mostLine}
+use Rattle.table.specs.Table.{lines}
+use Rattle.table.specs.Inner.{mostLine}
 use Rattle.table.proofs.Rows.{lines-none, lines-more}
 use Rattle.table.proofs.put_lines.Statement.{statement}
 use Rattle.table.proofs.put_lines.Tie as tie
@@ -22,7 +23,7 @@ loop-holds c = (omega arith, (omega arith, rw lines-none (wrote-none _ _)))
 put-line-requires : tie.Need-put-line-requires Inv-loop μ-loop
 put-line-requires c κs =
     let p = c .before .before .before .before .before .pre in
-    (p .0, (c .before .loop-test .taken, omega (arith, p .1, wrote-length (c .before .before .loop .inv .1 .1))))
+    (record { opened = p .0; below = c .before .loop-test .taken }, omega (arith, p .1, wrote-length (c .before .before .loop .inv .1 .1)))
 
 loop-again : tie.Need-loop-again Inv-loop μ-loop
 loop-again c =
@@ -41,14 +42,5 @@ returns c =
 
 pub put-lines-spec : {M : Type 1} → statement M
 put-lines-spec =
-    tie.close
-    (tie.spec
-    Inv-loop
-    μ-loop
-    loop-holds
-    put-line-requires
-    (λ c. omega arith)
-    (λ c. omega arith)
-    loop-again
-    same-length
+    tie.close (tie.spec Inv-loop μ-loop loop-holds put-line-requires (λ c. omega arith) (λ c. omega arith) loop-again same-length
     returns)

@@ -13,25 +13,24 @@ put-decimal-requires c κs = omega (arith, word-digits _ (c .before .before .fit
 returns : tie.Need-returns
 unfolding row
 returns c =
-    let w0 = c .before .before .before .before .before .before .before .before .before .before .before .before .before .before .before .before .before .before .before .before .before .before .put-decimal .ensures in
-    let w1 = c .before .before .before .before .before .before .before .before .before .before .before .before .before .before .before .before .before .before .put-port .ensures in
-    let w2 = c .before .before .before .before .before .before .before .before .before .before .before .before .before .before .put-found .ensures in
-    let w3 = c .before .before .before .before .before .before .before .before .before .before .put-field .ensures in
-    let w4 = c .before .before .before .before .before .before .put-found2 .ensures in
-    let w5 = c .before .before .put-byte .ensures in (
-      wrote-then (wrote-then (wrote-then (wrote-then (wrote-then (w0 .0) (w1 .0)) (w2 .0)) (w3 .0)) (w4 .0)) w5,
-      omega (arith, w5 .place),
-    )
+    let end = c .before .before in
+    let wait = end .before .before .before .before in
+    let flight = wait .before .before .before .before in
+    let window = flight .before .before .before .before in
+    let port = window .before .before .before .before in
+    let number = wrote-then (port .before .before .before .before .put-decimal .ensures .0) (port .put-port .ensures .0) in
+    let found = wrote-then (wrote-then number (window .put-window .ensures .0)) (flight .put-field .ensures .0) in
+    (wrote-then (wrote-then found (wait .put-wait .ensures .0)) (end .put-byte .ensures), omega (arith, end .put-byte .ensures .place))
+
+put-wait-requires : tie.Need-put-wait-requires
+put-wait-requires c κs =
+    let flight = c .before .before .before in
+    let window = flight .before .before .before .before in
+    let port = window .before .before .before .before in
+    let number = port .before .before .before .before in
+    (number .before .before .before .pre .0, omega arith)
 
 pub put-row-spec : {M : Type 1} → statement M
 put-row-spec =
-    tie.close
-    (tie.spec
-    put-decimal-requires
-    (λ c κs. omega arith)
-    (λ c κs. omega arith)
-    (λ c κs. omega arith)
-    (λ c κs. omega arith)
-    (λ c κs. omega arith)
-    (λ c. search needs)
-    returns)
+    tie.close (tie.spec put-decimal-requires (λ c κs. omega arith) (λ c κs. omega arith) (λ c κs. omega arith) put-wait-requires
+    (λ c κs. omega arith) (λ c. search needs) returns)

@@ -45,5 +45,5 @@ returns-2 c =
 
 pub fill-link-spec : {M : Type 1} → statement M
 fill-link-spec =
-    tie.close (tie.spec Inv-loop μ-loop (λ c. (omega arith, (sym (rates-none _), omega arith))) rival-rate-requires add-sum returns (λ c. omega arith) (λ c. omega arith)
-    (λ c. (omega arith, (more (c .before), c .if1 .left))) returns-2)
+    tie.close (tie.spec Inv-loop μ-loop (λ c. (omega arith, (sym (rates-none _), omega arith))) rival-rate-requires add-sum
+    returns (λ c. omega arith) (λ c. omega arith) (λ c. (omega arith, (more (c .before), c .if1 .left))) returns-2)

@@ -2,8 +2,7 @@
 use borrow.Author.Needs.{needs}
 use Prim.Native.Nat.{_+_, _*_, _≤_}
 use native.Mathlib.Omega.{arith}
-use Rattle.window.specs.Flight.{mostFlight}
-use Rattle.window.proofs.Flight.{flight-most}
+use Rattle.window.proofs.Flight.{mostFlight, flight-most}
 use Rattle.window.proofs.flight_bound.Statement.{statement}
 use Rattle.window.proofs.flight_bound.Tie as tie
 
@@ -14,16 +13,9 @@ small c =
     rw (c .before .offset-x .ensures, c .offset-y .ensures) (flight-most _ _ _ (p .0) (p .1 .0) (p .1 .1))
 
 returns : tie.Need-returns
-returns c = (rw (c .before .offset-x .ensures, c .offset-y .ensures), small c)
+returns c = rw (c .before .offset-x .ensures, c .offset-y .ensures)
 
 pub flight-bound-spec : {M : Type 1} → statement M
 flight-bound-spec =
-    tie.close
-    (tie.spec
-    (λ c κs. search needs)
-    (λ c κs. search needs)
-    (λ c. omega (arith, small c))
-    (λ c. omega (arith, small c))
-    (λ c. omega (arith, small c))
-    (λ c. omega (arith, small c))
-    returns)
+    tie.close (tie.spec (λ c κs. search needs) (λ c κs. search needs) (λ c. omega (arith, small c)) (λ c. omega (arith, small c))
+    (λ c. omega (arith, small c)) (λ c. omega (arith, small c)) returns)

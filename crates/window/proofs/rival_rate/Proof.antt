@@ -12,4 +12,5 @@ returns c = (refl, div-le-self wholeLink _)
 
 pub rival-rate-spec : {M : Type 1} → statement M
 rival-rate-spec =
-    tie.close (tie.spec (λ c. search needs) (λ c. search needs) (λ c. search needs) (λ c. search needs) (λ c. search needs) returns)
+    tie.close (tie.spec (λ c. search needs) (λ c. search needs) (λ c. search needs) (λ c. search needs) (λ c. search needs)
+    returns)

@@ -18,18 +18,18 @@ abbrev μ-loop : tie.MeasureT-loop
 loop-holds : tie.Need-loop-holds Inv-loop μ-loop
 loop-holds c = (omega arith, λ k l m. absurd (omega arith))
 
-demand-requires : tie.Need-demand-requires Inv-loop μ-loop
-demand-requires c κs = (c .before .before .before .pre, (c .before .loop .inv .0, c .if1 .left))
+demand-of-requires : tie.Need-demand-of-requires Inv-loop μ-loop
+demand-of-requires c κs = (c .before .before .before .pre, (c .before .loop .inv .0, c .if1 .left))
 
 add-t : tie.Need-add-t Inv-loop μ-loop
 add-t c =
     let p = c .before .before .before .before .before .pre in
     let most = demand-most _ _ _ (p .rival-ok) (c .before .before .if1 .left) in
-    omega (arith, c .before .demand .ensures)
+    omega (arith, c .before .demand-of .ensures)
 
 loop-again : tie.Need-loop-again Inv-loop μ-loop
 loop-again c =
-    let d = c .before .demand .ensures in
+    let d = c .before .demand-of .ensures in
     (omega arith, rw d (leap _ (demand-time _ _) 1 _ (c .before .before .before .loop .inv .1) (rw d at (c .if2 .left))))
 
 returns : tie.Need-returns Inv-loop μ-loop
@@ -38,8 +38,8 @@ returns c = sym (least-none _ _ 1 (λ k l m. c .before .loop .inv .1 k l (omega 
 returns-2 : tie.Need-returns-2 Inv-loop μ-loop
 returns-2 c =
     let inv = c .before .before .before .loop .inv in
-    sym (least-at _ _ 1 _ (record { from = inv .0; to = omega arith; free = rw (c .before .demand .ensures) at (c .if2 .taken); tried = inv .1 }))
+    sym (least-at _ _ 1 _ (record { from = inv .0; to = omega arith; free = rw (c .before .demand-of .ensures) at (c .if2 .taken); tried = inv .1 }))
 
 pub search-spec : {M : Type 1} → statement M
 search-spec =
-    tie.close (tie.spec Inv-loop μ-loop loop-holds demand-requires add-t (λ c. omega arith) loop-again returns returns-2)
+    tie.close (tie.spec Inv-loop μ-loop loop-holds demand-of-requires add-t (λ c. omega arith) loop-again returns returns-2)

@@ -1,4 +1,4 @@
--- `is_tagged`: the bytes passed are the tag's.
+-- `tagged`: the bytes passed are the tag's.
 use mathlib.Core.Path.{_≡_, sym}
 use Prim.Native.Nat.{_≤_, _+_, _-_}
 use native.Mathlib.Omega.{arith}
@@ -10,8 +10,8 @@ use Rattle.laws.specs.Bounded.{allBelow}
 use Rattle.laws.proofs.Bounded.{all-none, all-more, all-fails}
 use Rattle.plan.specs.Layout as Spec
 use Rattle.plan.specs.Layout.{tagged}
-use Rattle.plan.proofs.is_tagged.Statement.{statement}
-use Rattle.plan.proofs.is_tagged.Tie as tie
+use Rattle.plan.proofs.tagged.Statement.{statement}
+use Rattle.plan.proofs.tagged.Tie as tie
 
 abbrev Inv-loop : tie.InvT-loop
 Inv-loop file tag at k₀ k =
@@ -34,19 +34,7 @@ returns-2 c =
     let e : c .before .loop .k ≡ 4 = omega arith in
     sym (rw e at (c .before .loop .inv .1 .1))
 
-pub is-tagged-spec : {M : Type 1} → statement M
-is-tagged-spec =
-    tie.close
-    (tie.spec
-    Inv-loop
-    μ-loop
-    (λ c. omega arith)
-    (λ c. (omega arith, (omega arith, all-none _)))
-    (λ c. omega arith)
-    (λ c. omega arith)
-    (λ c. omega arith)
-    returns
-    (λ c. omega arith)
-    (λ c. omega arith)
-    loop-again
-    returns-2)
+pub tagged-spec : {M : Type 1} → statement M
+tagged-spec =
+    tie.close (tie.spec Inv-loop μ-loop (λ c. omega arith) (λ c. (omega arith, (omega arith, all-none _))) (λ c. omega arith)
+    (λ c. omega arith) (λ c. omega arith) returns (λ c. omega arith) (λ c. omega arith) loop-again returns-2)

@@ -1,11 +1,11 @@
--- `demand`: the sum so far is the demand of the rivals passed, and small.
+-- `demand_of`: the sum so far is the demand of the rivals passed, and small.
 use mathlib.Core.Path.{_≡_, sym}
 use Prim.Native.Nat.{_+_, _-_, _≤_}
 use native.Mathlib.Omega.{arith}
 use Rattle.window.specs.Rivals.{demandOf}
 use Rattle.window.proofs.Rivals.{demand-none, demand-more, demand-most}
-use Rattle.window.proofs.demand.Statement.{statement}
-use Rattle.window.proofs.demand.Tie as tie
+use Rattle.window.proofs.demand_of.Statement.{statement}
+use Rattle.window.proofs.demand_of.Tie as tie
 
 abbrev Inv-loop : tie.InvT-loop
 Inv-loop rivals n t sum₀ k₀ sum k = (k ≤ n) × (sum ≡ demandOf rivals k t)
@@ -41,6 +41,7 @@ returns c =
     let e : c .before .loop .k ≡ c .before .before .before .args .n = omega arith in
     rw e at (c .before .loop .inv .1)
 
-pub demand-spec : {M : Type 1} → statement M
-demand-spec =
-    tie.close (tie.spec Inv-loop μ-loop loop-holds rival-share-requires add-sum (λ c. omega arith) (λ c. omega arith) loop-again returns)
+pub demand-of-spec : {M : Type 1} → statement M
+demand-of-spec =
+    tie.close (tie.spec Inv-loop μ-loop loop-holds rival-share-requires add-sum (λ c. omega arith) (λ c. omega arith) loop-again
+    returns)
