@@ -1,10 +1,9 @@
 -- The theorem on whole lists: every answer, every word delivered and every word of the state are the packet book's, and the
 -- book keeps its promises. Rests on Calls, Reset and the book's promises.
-use mathlib.Core.Bool.{true, false, cond}
 use mathlib.Core.List.{List, [], _∷_, _++_, append-nil, append-assoc}
 use mathlib.Core.Logic.{inl, inr}
 use mathlib.Core.Path.{_≡_, refl, sym, ap, subst, _∙_}
-use Prim.Native.Nat.{ℕ, zero, suc, _-_, _*_, _≤_, _<_}
+use Prim.Native.Nat.{ℕ, _-_, _*_, _≤_, _<_}
 use native.Mathlib.Omega.{arith}
 use borrow.Author.Tests.{ltb-true, ltb-false}
 use lib.Dec.{ltb}
@@ -13,28 +12,29 @@ use lib.Seq.{take-at}
 use Rattle.laws.proofs.Cases.{test}
 use Rattle.flow.specs.Plan.{Plan}
 use Rattle.plan.specs.declared.Answer.{Answer}
-use Rattle.plan.specs.declared.Answer.the-variants.{Refused}
 use Rattle.plan.specs.Layout.{planOf}
 use Rattle.plan.proofs.Ranges.{plan-ok}
 use Rattle.book.specs.Book.{Book, start}
 use Rattle.book.specs.Cycle.{Delivery, deliveries, wordsOf}
-use Rattle.book.specs.Calls.{Call, Fed, refusal, judged, feed, Run, runFrom, run}
+use Rattle.book.specs.Calls.{Call, Fed, feed, Run, runFrom, run}
 use Rattle.book.specs.Calls as BookCalls
 use Rattle.book.proofs.Kept.{Kept, feed-cases, kept-start, kept-feed, kept-run}
 use Rattle.book.proofs.Promises.{promises}
 use Rattle.state.specs.State.{resetState}
 use Rattle.state.specs.Words.{stateWords}
 use Rattle.state.specs.Forms.{stateNumber}
-use Rattle.state.specs.Outcome.{Outcome, outcome, Lent, lent, over}
-use Rattle.state.specs.Calls.{planSize, resetOn}
+use Rattle.state.specs.Outcome.{Outcome, outcome, Lent, lent, unless, over}
+use Rattle.state.specs.Calls.{planSize, resetOn, writeOn}
 use Rattle.state.proofs.Words.{length-words}
 use Rattle.reset.proofs.Accepted.{accepted, leaves}
-use Rattle.run.specs.List.{Asked, offer, step, write, reset, onWords, Item, onMemory, memoryAfter, Role, feeds, resets, role, tooLittle, roleIn, MayCome, IsList, fedAs, fed, beside, outcomes, bookMemory, due, expected, wordCount, deliveredBy, deliveredWords, EveryList}
+use Rattle.cycle.specs.Calls.{offerOn, stepOn}
+use Rattle.run.specs.List.{Asked, offer, step, write, reset, onWords, Item, onMemory, memoryAfter, Role, feeds, between, resets, role, tooLittle, roleIn}
+use Rattle.run.specs.List.{MayCome, IsList, fedAs, fed, beside, outcomes, bookMemory, due, expected, wordCount, deliveredBy, deliveredWords, EveryList}
 use Rattle.run.specs.View.{bookState}
 use Rattle.run.proofs.Delivery.{words-append}
 use Rattle.run.proofs.Offer.{start-follows}
 use Rattle.run.proofs.Memory.{image, image-part, image-rest, number, short}
-use Rattle.run.proofs.Calls.{offer-on, step-on, write-on, short-offer, short-step, short-write}
+use Rattle.run.proofs.Calls.{offer-on, step-on, write-on}
 use Rattle.run.proofs.Reset.{reset-refused}
 
 -- five words for each delivery
@@ -52,15 +52,6 @@ fed-words p b c other =
     (λ room early. take-at (wordsOf (deliveries p b)) _ (5 * length (deliveries p b)) (words-length (deliveries p b)))
     c
 
--- an offer delivers nothing
-offer-silent : (p : Plan) (b : Book) (f : ℕ) → feed p b (BookCalls.offer f) .delivered ≡ []
-unfolding feed
-offer-silent p b f = by-number (refusal p b (BookCalls.offer f))
-  where
-    by-number : (n : ℕ) → judged p b (BookCalls.offer f) n .delivered ≡ []
-    by-number zero = refl
-    by-number (suc n) = refl
-
 -- two lists fed one after the other
 run-then : (p : Plan) (b : Book) (cs ds : List Call) → let first : Run = runFrom p b cs in let rest : Run = runFrom p (first .book) ds in
     (runFrom p b (cs ++ ds) .book ≡ rest .book) × (runFrom p b (cs ++ ds) .delivered ≡ first .delivered ++ rest .delivered)
@@ -70,124 +61,102 @@ run-then p b (c ∷ cs) ds =
     let now : Fed = feed p b c in
     (later .0, ap (λ rest. now .delivered ++ rest) (later .1) ∙ sym (append-assoc (now .delivered) (runFrom p (now .book) cs .delivered) _))
 
-abbrev item : Asked → ℕ → Item
-item c n = record { asked = c; words = n }
-
 module _ (p : Plan) (words : List ℕ) where
   abbrev tail : List ℕ
   tail = drop (planSize p) words
 
-  -- a call that leaves the words lent to it as they were
-  unchanged : (memory : List ℕ) (c : Asked) (n : ℕ) (a : Answer) (other : List ℕ) → onWords c (take n memory) ≡ outcome a (lent (take n memory) other)
-      → onMemory memory (item c n) ≡ outcome a (lent memory other)
-  unchanged memory c n a other e =
-      ap (λ (o : Outcome Answer Lent). outcome (o .answer) (lent (o .memory .state ++ drop n memory) (o .memory .other))) e
-      ∙ ap (λ m. outcome a (lent m other)) (take-append-drop n memory)
+  -- a call lent the first words of a state memory, which leaves them as they were
+  unchanged : (memory : List ℕ) (i : Item) (a : Answer) (other : List ℕ) → let part = take (i .lentWords) memory in
+      onWords (i .asked) part ≡ outcome a (lent part other) → onMemory memory i ≡ outcome a (lent memory other)
+  unchanged memory i a other e = rw (e, take-append-drop (i .lentWords) memory)
 
-  -- a call lent the whole state, and words behind it or not
-  enough : (b b′ : Book) (c : Asked) (n : ℕ) (a : Answer) (other : List ℕ) → planSize p ≤ n
-      → ((tail : List ℕ) → onWords c (image p b tail) ≡ outcome a (lent (image p b′ tail) other))
-      → onMemory (image p b tail) (item c n) ≡ outcome a (lent (image p b′ tail) other)
-  enough b b′ c n a other h does =
-      let part = take (n - planSize p) tail in
-      let rest = drop (n - planSize p) tail in
-      (λ i. let o : Outcome Answer Lent = onWords c (image-part p b tail n h i) in
-      outcome (o .answer) (lent (o .memory .state ++ image-rest p b tail n h i) (o .memory .other)))
-      ∙ ap (λ (o : Outcome Answer Lent). outcome (o .answer) (lent (o .memory .state ++ rest) (o .memory .other))) (does part)
-      ∙ ap (λ m. outcome a (lent m other)) (append-assoc (stateWords (bookState p b′)) part rest ∙ ap (λ t. image p b′ t) (take-append-drop (n - planSize p) tail))
+  module _ (b : Book) (k : Kept p b) where
+    abbrev m : List ℕ
+    m = image p b tail
 
-  -- one call from the words of book b, in role r: it leaves what is due, and the words of the book that it is fed to
-  record Does (b : Book) (i : Item) (r : Role) : Type 0 where
-    does : let o : Outcome Answer (List ℕ) = due p b words i r in
-        onMemory (image p b tail) i ≡ outcome (o .answer) (lent (image p (runFrom p b (fedAs r) .book) tail) (o .memory))
-    delivered : deliveredBy (role (i .asked)) (due p b words i r) ≡ wordsOf (runFrom p b (fedAs r) .delivered)
-    kept : Kept p (runFrom p b (fedAs r) .book)
+    -- what an item does in this role: it leaves what is due, and the words of the book that it was fed to
+    abbrev Does : Item → Role → Type 0
+    Does i r =
+        let o : Outcome Answer (List ℕ) = due p b words i r in
+        onMemory m i ≡ outcome (o .answer) (lent (image p (runFrom p b (fedAs r) .book) tail) (o .memory))
 
-  module _ (b : Book) (k : Kept p b) (n : ℕ) where
-    does-reset : (file : List ℕ) → MayCome resets ((onMemory (image p b tail) (item (reset file) n)) .answer) → Does b (item (reset file) n) resets
-    does-reset file refusal =
-        let part = take n (image p b tail) in
-        let a = (resetOn file part) .answer in
-        record {
-          does = unchanged (image p b tail) (reset file) n a [] (ap (λ m. outcome a (lent m [])) (reset-refused file part refusal));
-          delivered = refl;
-          kept = k;
-        }
+    -- a call lent the whole state, and words behind it or not
+    enough : (b′ : Book) (i : Item) (a : Answer) (other : List ℕ) → planSize p ≤ i .lentWords
+        → ((tail : List ℕ) → onWords (i .asked) (image p b tail) ≡ outcome a (lent (image p b′ tail) other))
+        → onMemory m i ≡ outcome a (lent (image p b′ tail) other)
+    enough b′ i a other h does =
+        let n = i .lentWords - planSize p in
+        rw (
+          image-part p b tail (i .lentWords) h,
+          image-rest p b tail (i .lentWords) h,
+          does (take n tail),
+          append-assoc (stateWords (bookState p b′)) (take n tail) (drop n tail),
+          take-append-drop n tail,
+        )
 
-    -- a fed call
-    does-fed : (c : Asked) (call : Call) (other : List ℕ) → role c ≡ feeds call other → planSize p ≤ n
-        → ((tail : List ℕ) → let now : Fed = feed p b call in
-        onWords c (image p b tail) ≡ outcome (now .reply) (lent (image p (now .book) tail) (over (wordsOf (now .delivered)) other)))
-        → Does b (item c n) (feeds call other)
-    does-fed c call other r h does =
-        record {
-          does = enough b (feed p b call .book) c n _ _ h does;
-          delivered =
-              ap (λ r. deliveredBy r (due p b words (item c n) (feeds call other))) r
-              ∙ fed-words p b call other ∙ ap wordsOf (sym (append-nil (feed p b call .delivered)));
-          kept = kept-feed p b k call;
-        }
+    module _ (n : ℕ) where
+      abbrev item : Asked → Item
+      item c = record { asked = c; lentWords = n }
 
-    does-enough : (c : Asked) → planSize p ≤ n → MayCome (role c) ((onMemory (image p b tail) (item c n)) .answer) → Does b (item c n) (role c)
-    does-enough (offer f) h may =
-        does-fed (offer f) (BookCalls.offer f) [] refl h
-        (λ t. let now : Fed = feed p b (BookCalls.offer f) in
-        ap (λ (o : Outcome Answer (List ℕ)). outcome (o .answer) (lent (o .memory) [])) (offer-on p b k t f)
-        ∙ ap (λ ds. outcome (now .reply) (lent (image p (now .book) t) (over (wordsOf ds) []))) (sym (offer-silent p b f)))
-    does-enough (step delivery) h may =
-        does-fed (step delivery) (BookCalls.step (length delivery)) delivery refl h (λ t. step-on p b k t delivery)
-    does-enough (write notes target) h may =
-        record {
-          does =
-              enough b b (write notes target) n _ _ h
-              (λ t. ap (λ (o : Outcome Answer (List ℕ)). outcome (o .answer) (lent (image p b t) (o .memory))) (write-on p b k t notes target));
-          delivered = refl;
-          kept = k;
-        }
-    does-enough (reset file) h may = does-reset file may
+      does-reset : (file : List ℕ) → MayCome resets ((onMemory m (item (reset file))) .answer) → Does (item (reset file)) resets
+      does-reset file may =
+          let part = take n m in
+          unchanged m (item (reset file)) _ _ (ap (λ w. outcome ((resetOn file part) .answer) (lent w [])) (reset-refused file part may))
 
-    -- a call lent too little
-    does-little : (c : Asked) → n < planSize p → MayCome (role c) ((onMemory (image p b tail) (item c n)) .answer) → Does b (item c n) (tooLittle (role c))
-    does-little (offer f) few may =
-        let part = take n (image p b tail) in
-        let e = ap (λ (o : Outcome Answer (List ℕ)). outcome (o .answer) (lent (o .memory) [])) (short-offer part (short p b tail k n few) f) in
-        record { does = unchanged (image p b tail) (offer f) n _ _ e; delivered = refl; kept = k }
-    does-little (step delivery) few may =
-        let e = short-step (take n (image p b tail)) (short p b tail k n few) delivery in
-        record { does = unchanged (image p b tail) (step delivery) n _ _ e; delivered = refl; kept = k }
-    does-little (write notes target) few may =
-        let part = take n (image p b tail) in
-        let e = ap (λ (o : Outcome Answer (List ℕ)). outcome (o .answer) (lent part (o .memory))) (short-write part (short p b tail k n few) notes target) in
-        record { does = unchanged (image p b tail) (write notes target) n _ _ e; delivered = refl; kept = k }
-    does-little (reset file) few may = does-reset file may
+      does-enough : (c : Asked) → planSize p ≤ n → MayCome (role c) ((onMemory m (item c)) .answer) → Does (item c) (role c)
+      does-enough (offer f) h may = enough (feed p b (BookCalls.offer f) .book) (item (offer f)) _ _ h (λ t. offer-on p b k t f)
+      does-enough (step delivery) h may =
+          enough (feed p b (BookCalls.step (length delivery)) .book) (item (step delivery)) _ _ h (λ t. step-on p b k t delivery)
+      does-enough (write notes target) h may = enough b (item (write notes target)) _ _ h (λ t. write-on p b k t notes target)
+      does-enough (reset file) h may = does-reset file may
 
-    does-item : (c : Asked) → MayCome (role c) ((onMemory (image p b tail) (item c n)) .answer) → Does b (item c n) (roleIn p (item c n))
-    does-item c may =
-        elim (test (ltb n (planSize p))) [
-          | inl few ↦ rw few (does-little c (ltb-true n (planSize p) few) may)
-          | inr all ↦ rw all (does-enough c (ltb-false n (planSize p) all) may)
+      does-little : (c : Asked) → n < planSize p → MayCome (role c) ((onMemory m (item c)) .answer) → Does (item c) (tooLittle (role c))
+      unfolding offerOn stepOn writeOn unless
+      does-little (offer f) few may = unchanged m (item (offer f)) _ _ (rw (short p b tail k n few))
+      does-little (step delivery) few may = unchanged m (item (step delivery)) _ _ (rw (short p b tail k n few))
+      does-little (write notes target) few may = unchanged m (item (write notes target)) _ _ (rw (short p b tail k n few))
+      does-little (reset file) few may = does-reset file may
+
+    does : (i : Item) → MayCome (role (i .asked)) ((onMemory m i) .answer) → Does i (roleIn p i)
+    does i may =
+        elim (test (ltb (i .lentWords) (planSize p))) [
+          | inl few ↦ rw few (does-little (i .lentWords) (i .asked) (ltb-true _ _ few) may)
+          | inr all ↦ rw all (does-enough (i .lentWords) (i .asked) (ltb-false _ _ all) may)
         ]
+
+    -- in every role: the words delivered are the book's, and the book stays lawful
+    delivers : (i : Item) (r : Role) → deliveredBy r (due p b words i r) ≡ wordsOf (runFrom p b (fedAs r) .delivered)
+    delivers i (feeds call other) = fed-words p b call other ∙ ap wordsOf (sym (append-nil (feed p b call .delivered)))
+    delivers i (between tells other) = refl
+    delivers i resets = refl
+
+    keeps : (r : Role) → Kept p (runFrom p b (fedAs r) .book)
+    keeps (feeds call other) = kept-feed p b k call
+    keeps (between tells other) = k
+    keeps resets = k
 
   -- what a list comes to from the words of a book
   record Goes (b : Book) (is : List Item) : Type 0 where
     answered : outcomes (image p b tail) is ≡ expected p b words is
-    delivered : deliveredWords (image p b tail) is ≡ wordsOf (runFrom p b (fed p is) .delivered)
+    delivered : deliveredWords p (image p b tail) is ≡ wordsOf (runFrom p b (fed p is) .delivered)
     state : memoryAfter (image p b tail) is ≡ image p (runFrom p b (fed p is) .book) tail
 
   follow : (is : List Item) (b : Book) → Kept p b → IsList (image p b tail) is → Goes b is
   follow [] b k l = record { answered = refl; delivered = refl; state = refl }
   follow (i ∷ is) b k l =
       let r = roleIn p i in
-      let d = does-item b k (i .words) (i .asked) (l .0) in
-      let left = ap (λ (o : Outcome Answer Lent). o .memory .state) (d .does) in
-      let told = ap beside (d .does) in
-      let later = follow is (runFrom p b (fedAs r) .book) (d .kept) (subst (λ m. IsList m is) left (l .1)) in
+      let first : Run = runFrom p b (fedAs r) in
+      let d = does b k i (l .0) in
+      let told = ap beside d in
+      let left = ap (λ (o : Outcome Answer Lent). o .memory .state) d in
+      let later = follow is (first .book) (keeps b k r) (subst (λ m. IsList m is) left (l .1)) in
       let runs = run-then p b (fedAs r) (fed p is) in
       record {
         answered = (λ j. told j ∷ outcomes (left j) is) ∙ ap (λ rest. due p b words i r ∷ rest) (later .answered);
         delivered =
-            (λ j. deliveredBy (role (i .asked)) (told j) ++ deliveredWords (left j) is) ∙ (λ j. d .delivered j ++ later .delivered j)
-            ∙ sym (ap wordsOf (runs .1) ∙ words-append (runFrom p b (fedAs r) .delivered) _);
+            (λ j. deliveredBy r (told j) ++ deliveredWords p (left j) is)
+            ∙ (λ j. delivers b k i r j ++ later .delivered j)
+            ∙ sym (ap wordsOf (runs .1) ∙ words-append (first .delivered) _);
         state = ap (λ m. memoryAfter m is) left ∙ later .state ∙ ap (λ c. image p c tail) (sym (runs .0));
       }
 
@@ -203,7 +172,7 @@ every-list file words bytes done is l =
     let state = ap (λ m. memoryAfter m is) begun ∙ g .state in
     record {
       answered = ap (λ m. outcomes m is) begun ∙ g .answered;
-      delivered = ap (λ m. deliveredWords m is) begun ∙ g .delivered;
+      delivered = ap (λ m. deliveredWords p m is) begun ∙ g .delivered;
       state = state;
       formed = ap stateNumber state ∙ number p (run p (fed p is) .book) (drop (planSize p) words) (kept-run p ok (fed p is));
       promised = promises p ok (fed p is);

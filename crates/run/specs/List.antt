@@ -42,13 +42,13 @@ onWords (reset file) words = outcome ((resetOn file words) .answer) (lent ((rese
 -- an item of a list: a call, and how many words of the state memory it is lent
 pub record Item : Type 0 where
   pub asked : Asked
-  pub words : ℕ
+  pub lentWords : ℕ
 
 -- it is lent the first words of the state memory; the others stay
 abbrev pub onMemory : (memory : List ℕ) → Item → Outcome Answer Lent
 onMemory memory i =
-    let o : Outcome Answer Lent = onWords (i .asked) (take (i .words) memory) in
-    outcome (o .answer) (lent (o .memory .state ++ drop (i .words) memory) (o .memory .other))
+    let o : Outcome Answer Lent = onWords (i .asked) (take (i .lentWords) memory) in
+    outcome (o .answer) (lent (o .memory .state ++ drop (i .lentWords) memory) (o .memory .other))
 
 -- the state memory after a list: each call is lent it as the last one left it
 abbrev pub memoryAfter : (memory : List ℕ) → List Item → List ℕ
@@ -75,7 +75,7 @@ tooLittle (between tells other) = between (λ p b. refused 8) other
 tooLittle resets = resets
 
 abbrev pub roleIn : Plan → Item → Role
-roleIn p i = cond (ltb (i .words) (planSize p)) (tooLittle (role (i .asked))) (role (i .asked))
+roleIn p i = cond (ltb (i .lentWords) (planSize p)) (tooLittle (role (i .asked))) (role (i .asked))
 
 -- a list ends before the next accepted reset: the one condition on it
 abbrev pub MayCome : Role → Answer → Type 0
@@ -130,16 +130,16 @@ deliveredBy (feeds call other) o = take (wordCount (o .answer)) (o .memory)
 deliveredBy (between tells other) o = []
 deliveredBy resets o = []
 
-abbrev pub deliveredWords : (memory : List ℕ) → List Item → List ℕ
-deliveredWords memory [] = []
-deliveredWords memory (i ∷ is) =
-    deliveredBy (role (i .asked)) (beside (onMemory memory i)) ++ deliveredWords ((onMemory memory i) .memory .state) is
+abbrev pub deliveredWords : Plan → (memory : List ℕ) → List Item → List ℕ
+deliveredWords p memory [] = []
+deliveredWords p memory (i ∷ is) =
+    deliveredBy (roleIn p i) (beside (onMemory memory i)) ++ deliveredWords p ((onMemory memory i) .memory .state) is
 
 -- what a list comes to, from the state memory that an accepted reset of plan p left of the lent words
 pub record Follows (p : Plan) (words memory : List ℕ) (is : List Item) : Type 0 where
   -- each call's answer and the words that the steps delivered, in order, are the book's
   pub answered : outcomes memory is ≡ expected p (start p) words is
-  pub delivered : deliveredWords memory is ≡ wordsOf ((run p (fed p is)) .delivered)
+  pub delivered : deliveredWords p memory is ≡ wordsOf ((run p (fed p is)) .delivered)
   -- so is every word of the state; words past its size are as lent
   pub state : memoryAfter memory is ≡ bookMemory p ((run p (fed p is)) .book) words
   -- these words form a state: 9 never comes up, and 8 only for too little of them
