@@ -1,6 +1,6 @@
 -- The theorem on whole lists: every answer, every word delivered and every word of the state are the packet book's, and the
 -- book keeps its promises. Rests on Calls, Reset and the book's promises.
-use mathlib.Core.List.{List, [], _∷_, _++_, append-nil, append-assoc}
+use mathlib.Core.List.{List, [], _∷_, _++_, map, append-assoc}
 use mathlib.Core.Logic.{inl, inr}
 use mathlib.Core.Path.{_≡_, refl, sym, ap, subst, _∙_}
 use Prim.Native.Nat.{ℕ, _-_, _*_, _≤_, _<_}
@@ -29,13 +29,16 @@ use Rattle.state.proofs.Words.{length-words}
 use Rattle.reset.proofs.Accepted.{accepted, leaves}
 use Rattle.cycle.specs.Calls.{offerOn, stepOn}
 use Rattle.run.specs.List.{Asked, offer, step, write, reset, onWords, Item, onMemory, memoryAfter, Role, feeds, between, resets, role, tooLittle, roleIn}
-use Rattle.run.specs.List.{MayCome, IsList, fedAs, fed, beside, outcomes, bookMemory, due, expected, wordCount, deliveredBy, deliveredWords, EveryList}
+use Rattle.run.specs.List.{MayCome, IsList, fedAs, fed, beside, outcomes, bookMemory, due, expected, ofFed, fedOutcomes, wordCount, deliveredBy, EveryList}
 use Rattle.run.specs.View.{bookState}
 use Rattle.run.proofs.Delivery.{words-append}
 use Rattle.run.proofs.Offer.{start-follows}
 use Rattle.run.proofs.Memory.{image, image-part, image-rest, number, short}
 use Rattle.run.proofs.Calls.{offer-on, step-on, write-on}
 use Rattle.run.proofs.Reset.{reset-refused}
+
+abbrev answers : List (Outcome Answer (List ℕ)) → List Answer
+answers os = map (λ (o : Outcome Answer (List ℕ)). o .answer) os
 
 -- five words for each delivery
 words-length : (ds : List Delivery) → length (wordsOf ds) ≡ 5 * length ds
@@ -51,15 +54,6 @@ fed-words p b c other =
     (λ n. refl) (λ f below room. refl)
     (λ room early. take-at (wordsOf (deliveries p b)) _ (5 * length (deliveries p b)) (words-length (deliveries p b)))
     c
-
--- two lists fed one after the other
-run-then : (p : Plan) (b : Book) (cs ds : List Call) → let first : Run = runFrom p b cs in let rest : Run = runFrom p (first .book) ds in
-    (runFrom p b (cs ++ ds) .book ≡ rest .book) × (runFrom p b (cs ++ ds) .delivered ≡ first .delivered ++ rest .delivered)
-run-then p b [] ds = (refl, refl)
-run-then p b (c ∷ cs) ds =
-    let later = run-then p (feed p b c .book) cs ds in
-    let now : Fed = feed p b c in
-    (later .0, ap (λ rest. now .delivered ++ rest) (later .1) ∙ sym (append-assoc (now .delivered) (runFrom p (now .book) cs .delivered) _))
 
 module _ (p : Plan) (words : List ℕ) where
   abbrev tail : List ℕ
@@ -124,41 +118,46 @@ module _ (p : Plan) (words : List ℕ) where
           | inr all ↦ rw all (does-enough (i .lentWords) (i .asked) (ltb-false _ _ all) may)
         ]
 
-    -- in every role: the words delivered are the book's, and the book stays lawful
-    delivers : (i : Item) (r : Role) → deliveredBy r (due p b words i r) ≡ wordsOf (runFrom p b (fedAs r) .delivered)
-    delivers i (feeds call other) = fed-words p b call other ∙ ap wordsOf (sym (append-nil (feed p b call .delivered)))
-    delivers i (between tells other) = refl
-    delivers i resets = refl
-
     keeps : (r : Role) → Kept p (runFrom p b (fedAs r) .book)
     keeps (feeds call other) = kept-feed p b k call
     keeps (between tells other) = k
     keeps resets = k
 
-  -- what a list comes to from the words of a book
-  record Goes (b : Book) (is : List Item) : Type 0 where
-    answered : outcomes (image p b tail) is ≡ expected p b words is
-    delivered : deliveredWords p (image p b tail) is ≡ wordsOf (runFrom p b (fed p is) .delivered)
-    state : memoryAfter (image p b tail) is ≡ image p (runFrom p b (fed p is) .book) tail
+  -- outcomes, those of the fed calls and a state memory, beside what a run of the book has
+  record Right (outs due fed : List (Outcome Answer (List ℕ))) (memory : List ℕ) (r : Run) : Type 0 where
+    answered : outs ≡ due
+    replied : answers fed ≡ r .replies
+    delivered : deliveredBy fed ≡ wordsOf (r .delivered)
+    state : memory ≡ image p (r .book) tail
 
-  follow : (is : List Item) (b : Book) → Kept p b → IsList (image p b tail) is → Goes b is
-  follow [] b k l = record { answered = refl; delivered = refl; state = refl }
+  -- a call in any role, then the rest
+  then : (b : Book) (i : Item) (r : Role) {outs later fed : List (Outcome Answer (List ℕ))} {memory : List ℕ} (cs : List Call)
+      → Right outs later fed memory (runFrom p (runFrom p b (fedAs r) .book) cs)
+      → let o = due p b words i r in Right (o ∷ outs) (o ∷ later) (ofFed r o ++ fed) memory (runFrom p b (fedAs r ++ cs))
+  then b i (feeds call other) cs g =
+      record {
+        answered = ap (λ rest. due p b words i (feeds call other) ∷ rest) (g .answered);
+        replied = ap (λ rest. feed p b call .reply ∷ rest) (g .replied);
+        delivered = (λ j. fed-words p b call other j ++ g .delivered j) ∙ sym (words-append (feed p b call .delivered) _);
+        state = g .state;
+      }
+  then b i (between tells other) cs g =
+      record { answered = ap (λ rest. tells p b other ∷ rest) (g .answered); replied = g .replied; delivered = g .delivered; state = g .state }
+  then b i resets cs g =
+      record { answered = ap (λ rest. due p b words i resets ∷ rest) (g .answered); replied = g .replied; delivered = g .delivered; state = g .state }
+
+  abbrev Goes : Book → (memory : List ℕ) → List Item → Type 0
+  Goes b memory is = Right (outcomes memory is) (expected p b words is) (fedOutcomes p memory is) (memoryAfter memory is) (runFrom p b (fed p is))
+
+  follow : (is : List Item) (b : Book) → Kept p b → IsList (image p b tail) is → Goes b (image p b tail) is
+  follow [] b k l = record { answered = refl; replied = refl; delivered = refl; state = refl }
   follow (i ∷ is) b k l =
       let r = roleIn p i in
-      let first : Run = runFrom p b (fedAs r) in
       let d = does b k i (l .0) in
-      let told = ap beside d in
-      let left = ap (λ (o : Outcome Answer Lent). o .memory .state) d in
-      let later = follow is (first .book) (keeps b k r) (subst (λ m. IsList m is) left (l .1)) in
-      let runs = run-then p b (fedAs r) (fed p is) in
-      record {
-        answered = (λ j. told j ∷ outcomes (left j) is) ∙ ap (λ rest. due p b words i r ∷ rest) (later .answered);
-        delivered =
-            (λ j. deliveredBy r (told j) ++ deliveredWords p (left j) is)
-            ∙ (λ j. delivers b k i r j ++ later .delivered j)
-            ∙ sym (ap wordsOf (runs .1) ∙ words-append (first .delivered) _);
-        state = ap (λ m. memoryAfter m is) left ∙ later .state ∙ ap (λ c. image p c tail) (sym (runs .0));
-      }
+      let later = follow is (runFrom p b (fedAs r) .book) (keeps b k r) (subst (λ (o : Outcome Answer Lent). IsList (o .memory .state) is) d (l .1)) in
+      subst (λ (o : Outcome Answer Lent). Right (beside o ∷ outcomes (o .memory .state) is) (expected p b words (i ∷ is))
+      (ofFed r (beside o) ++ fedOutcomes p (o .memory .state) is) (memoryAfter (o .memory .state) is) (runFrom p b (fed p (i ∷ is))))
+      (sym d) (then b i r (fed p is) later)
 
 -- for every plan file that reset accepts, every state memory of at least its size and every list of calls
 pub every-list : EveryList
@@ -168,12 +167,12 @@ every-list file words bytes done is l =
     let ok = plan-ok file (a .value) (a .file-done) bytes in
     let begun : (resetOn file words) .memory ≡ bookMemory p (start p) words =
     leaves file words bytes done ∙ (λ i. stateWords (sym (start-follows p) i) ++ drop (length-words (resetState p) i) words) in
-    let g = follow p words is (start p) (kept-start p ok) (subst (λ m. IsList m is) begun l) in
-    let state = ap (λ m. memoryAfter m is) begun ∙ g .state in
+    let g = subst (λ m. Goes p words (start p) m is) (sym begun) (follow p words is (start p) (kept-start p ok) (subst (λ m. IsList m is) begun l)) in
     record {
-      answered = ap (λ m. outcomes m is) begun ∙ g .answered;
-      delivered = ap (λ m. deliveredWords p m is) begun ∙ g .delivered;
-      state = state;
-      formed = ap stateNumber state ∙ number p (run p (fed p is) .book) (drop (planSize p) words) (kept-run p ok (fed p is));
+      answered = g .answered;
+      replied = g .replied;
+      delivered = g .delivered;
+      state = g .state;
+      formed = ap stateNumber (g .state) ∙ number p (run p (fed p is) .book) (drop (planSize p) words) (kept-run p ok (fed p is));
       promised = promises p ok (fed p is);
     }
