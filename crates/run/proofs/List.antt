@@ -29,7 +29,8 @@ use Rattle.state.proofs.Words.{length-words}
 use Rattle.reset.proofs.Accepted.{accepted, leaves}
 use Rattle.cycle.specs.Calls.{offerOn, stepOn}
 use Rattle.run.specs.List.{Asked, offer, step, write, reset, onWords, Item, onMemory, memoryAfter, Role, feeds, between, resets, role, tooLittle, roleIn}
-use Rattle.run.specs.List.{MayCome, IsList, fedAs, fed, beside, outcomes, bookMemory, due, expected, ofFed, fedOutcomes, wordCount, deliveredBy, EveryList}
+use Rattle.run.specs.List.{MayCome, IsList, fedAs, fed, beside, outcomes, bookMemory, due, expected}
+use Rattle.run.specs.List.{ofFed, fedOutcomes, wordCount, deliveredBy, EveryList}
 use Rattle.run.specs.View.{bookState}
 use Rattle.run.proofs.Delivery.{words-append}
 use Rattle.run.proofs.Offer.{start-follows}
