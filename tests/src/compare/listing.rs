@@ -4,16 +4,20 @@ use super::parts::{Extent, rounds};
 use super::{Tally, plans};
 use crate::plan::read;
 use crate::random::{self, Random};
+use crate::slips::refuted;
 use crate::window::listing;
 use std::io::Write;
 use std::process::{Command, Stdio};
 
-/// Compares what `print` gives for files of telling lengths, for some at the boundary of a refusal,
-/// and for random and damaged plans.
+/// Compares what `print` gives for files of telling lengths, for plans that refute a slipped window,
+/// for some files at the boundary of a refusal, and for random and damaged plans.
 pub fn run(print: impl Fn(&[u8]) -> Vec<u8>, seed: u64, extent: Extent) -> Tally {
     let mut tally = Tally::new(seed);
     for length in [0, 11, 12, 65_535, 65_536, 65_537, 70_000] {
         compare(&print, &mut tally, &vec![0x50; length]);
+    }
+    for row in refuted() {
+        compare(&print, &mut tally, &row.plan.file(&[]));
     }
     for file in plans::at_boundaries().iter().step_by(16) {
         compare(&print, &mut tally, file);
