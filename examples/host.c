@@ -2,57 +2,81 @@
  * flow and steps until all of them have left. Last it writes the plan back from the state.
  *
  *     host PLAN
+ *
+ * Its status is 0; 1 if a call is refused or something isn't as it should be; 2 if it is called
+ * wrongly or the file can't be read.
  */
 #include "hrt.h"
 
+#include <errno.h>
 #include <stdio.h>
 #include <string.h>
 
-enum {
-    MOST_BYTES = 65536,                        /* of a plan file */
-    MOST_WORDS = 8 + 10 * 256 + 8 * 16 * 16,   /* of a state: 256 flows on 16 by 16 */
-    MOST_DELIVERY = 5 * 16 * 16                /* five words for each router */
-};
-
 /* One byte more than a plan may have, so that a longer file is told. */
-static uint8_t plan[MOST_BYTES + 1];
-static uint32_t state[MOST_WORDS];
-static uint32_t delivery[MOST_DELIVERY];
-static uint8_t written[MOST_BYTES];
+static uint8_t plan[HRT_MOST_PLAN_BYTES + 1];
+static uint32_t state[HRT_MOST_STATE_WORDS];
+static uint32_t delivery[HRT_MOST_DELIVERY_WORDS];
+static uint8_t written[HRT_MOST_PLAN_BYTES];
 
-/* A refused call answers number * 2^32 + place. */
+/* Says that a call was refused, if it was. */
 static int is_refused(const char *call, uint64_t answer)
 {
-    if (answer >> 32 == 0)
+    if (!HRT_IS_REFUSED(answer))
         return 0;
-    fprintf(stderr, "%s: refusal %u, place %u\n", call, (unsigned)(answer >> 32), (unsigned)answer);
+    fprintf(stderr, "host: %s is refused: number %u, place %u\n", call, (unsigned)HRT_NUMBER(answer),
+            (unsigned)HRT_PLACE(answer));
     return 1;
 }
 
-/* Prints window and flight bound of each flow. A window of 65,536 or more is a refusal. */
-static int print_bounds(size_t bytes, uint32_t flows)
+/* Reads the file whole, or one byte more than a plan may have. */
+static int read_plan(const char *name, size_t *bytes)
+{
+    FILE *file = fopen(name, "rb");
+    if (file != NULL) {
+        *bytes = fread(plan, 1, sizeof plan, file);
+        int failed = ferror(file);
+        int why = errno;
+        fclose(file);
+        if (!failed)
+            return 0;
+        errno = why;
+    }
+    fprintf(stderr, "host: '%s' can't be read: %s\n", name, strerror(errno));
+    return 1;
+}
+
+/* Prints window and flight bound of each flow, and adds up the flight bounds. */
+static int print_bounds(size_t bytes, uint32_t flows, uint64_t *flights)
 {
     for (uint32_t flow = 0; flow < flows; flow++) {
         uint32_t window = hrt_window(plan, bytes, flow);
         uint64_t flight = hrt_flight(plan, bytes, flow);
-        if (is_refused("flight", flight))
+        if (is_refused("the flight bound", flight))
             return 1;
         printf("flow %u: ", (unsigned)flow);
-        if (window < 65536)
-            printf("window %u", (unsigned)window);
+        if (HRT_WINDOW_IS_REFUSED(window))
+            printf("no window (refusal %u)", (unsigned)HRT_WINDOW_NUMBER(window));
         else
-            printf("no window (refusal %u)", (unsigned)(window - 65536));
+            printf("window %u", (unsigned)window);
         printf(", flight at most %u\n", (unsigned)flight);
+        *flights += flight;
     }
     return 0;
 }
 
-/* Steps until so many packets have left, and prints each. */
-static int run(uint32_t packets)
+/* Steps until so many packets have left, and prints each. Every one of them has a token, so in
+ * each cycle one is under way or enters, and none is under way for longer than its flight bound:
+ * after as many steps as the flight bounds add up to, all have left. */
+static int run(uint32_t packets, uint64_t most_steps)
 {
-    while (packets > 0) {
-        uint64_t exits = hrt_step(state, MOST_WORDS, delivery, MOST_DELIVERY);
-        if (is_refused("step", exits))
+    for (uint64_t step = 0; packets > 0; step++) {
+        if (step == most_steps) {
+            fprintf(stderr, "host: %u packets haven't left after %u steps, the sum of the flight bounds\n",
+                    (unsigned)packets, (unsigned)most_steps);
+            return 1;
+        }
+        uint64_t exits = hrt_step(state, HRT_MOST_STATE_WORDS, delivery, HRT_MOST_DELIVERY_WORDS);
+        if (is_refused("a step", exits))
             return 1;
         for (uint64_t i = 0; i < exits; i++) {
             const uint32_t *d = delivery + 5 * i; /* flow, serial, entry cycle, exit cycle, D */
@@ -68,8 +92,8 @@ static int run(uint32_t packets)
 /* Writes the plan back, with its notes, and says whether it is the file that was read. */
 static int write_back(size_t bytes, size_t notes)
 {
-    uint64_t length = hrt_write(state, MOST_WORDS, plan, notes, written, MOST_BYTES);
-    if (is_refused("write", length))
+    uint64_t length = hrt_write(state, HRT_MOST_STATE_WORDS, plan, notes, written, HRT_MOST_PLAN_BYTES);
+    if (is_refused("writing", length))
         return 1;
     int same = length == bytes && memcmp(plan, written, bytes) == 0;
     printf("the plan written back is %s\n", same ? "the same" : "another");
@@ -78,23 +102,25 @@ static int write_back(size_t bytes, size_t notes)
 
 int main(int argc, char **argv)
 {
-    FILE *file = argc == 2 ? fopen(argv[1], "rb") : NULL;
-    if (file == NULL) {
-        fprintf(stderr, "usage: host PLAN\n");
+    if (argc != 2) {
+        fprintf(stderr, "host: it takes one plan file\nusage: host PLAN\n");
         return 2;
     }
-    size_t bytes = fread(plan, 1, sizeof plan, file);
-    fclose(file);
+    size_t bytes;
+    if (read_plan(argv[1], &bytes))
+        return 2;
 
     uint64_t notes = hrt_notes(plan, bytes);
-    if (is_refused("plan", notes) || is_refused("reset", hrt_reset(plan, bytes, state, MOST_WORDS)))
+    if (is_refused("the plan", notes)
+        || is_refused("the reset", hrt_reset(plan, bytes, state, HRT_MOST_STATE_WORDS)))
         return 1;
     fwrite(plan, 1, (size_t)notes, stdout);
     uint32_t flows = state[2]; /* the state starts with Sx, Sy, F and the clock */
-    if (print_bounds(bytes, flows))
+    uint64_t flights = 0;
+    if (print_bounds(bytes, flows, &flights))
         return 1;
     for (uint32_t flow = 0; flow < flows; flow++)
-        if (is_refused("offer", hrt_offer(state, MOST_WORDS, flow)))
+        if (is_refused("an offer", hrt_offer(state, HRT_MOST_STATE_WORDS, flow)))
             return 1;
-    return run(flows) || write_back(bytes, (size_t)notes);
+    return run(flows, flights) || write_back(bytes, (size_t)notes);
 }

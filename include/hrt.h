@@ -1,6 +1,11 @@
 /* The C interface of Kimboryu. Link with target/staticlib/libhost.a (rt staticlib host).
  *
- * Memory is lent as a pointer and a count of its elements; the pointer is not null, even for a count of 0.
+ * Memory is lent as a pointer and a count of its elements. The pointer is not null, even for a count of 0.
+ * Memories lent to one call don't overlap: hrt_reset's plan and state, hrt_step's state and delivery, hrt_write's target and
+ * its state or notes lie apart. Only what is merely read may overlap, as hrt_write's state and notes.
+ * The functions have no memory of their own. Calls may run at once, in several threads, if what one of them writes is lent to
+ * no other: all may read one plan, and a state is in one hrt_reset, hrt_offer or hrt_step at a time.
+ *
  * A refused call changes nothing that was lent to it.
  * hrt_window answers the window T, 1 to 65,535, or 65,536 + the refusal number.
  * Every other call answers its value when accepted, or number * 2^32 + place when refused. */
@@ -14,6 +19,28 @@
 extern "C" {
 #endif
 
+/* The limits. A torus has 1 to 16 columns Sx and rows Sy, a plan 1 to 256 flows. */
+#define HRT_MOST_PLAN_BYTES 65536
+#define HRT_MOST_SIZE 16
+#define HRT_MOST_FLOWS 256
+#define HRT_MOST_WAITING 65535      /* packets of a flow that wait; one offer more is refused with 13 */
+#define HRT_LAST_CLOCK 4294967295u  /* a step in this cycle is refused with 11 */
+
+/* The words of a state, and the fewest that may be lent for the deliveries of a step. */
+#define HRT_STATE_WORDS(flows, sx, sy) ((size_t)8 + 10 * (size_t)(flows) + 8 * (size_t)(sx) * (size_t)(sy))
+#define HRT_DELIVERY_WORDS(sx, sy) (5 * (size_t)(sx) * (size_t)(sy))
+#define HRT_MOST_STATE_WORDS (8 + 10 * HRT_MOST_FLOWS + 8 * HRT_MOST_SIZE * HRT_MOST_SIZE)
+#define HRT_MOST_DELIVERY_WORDS (5 * HRT_MOST_SIZE * HRT_MOST_SIZE)
+
+/* What an answer says, of every call but hrt_window. The number of an accepted call is 0. */
+#define HRT_IS_REFUSED(answer) ((uint64_t)(answer) >> 32 != 0)
+#define HRT_NUMBER(answer) ((uint32_t)((uint64_t)(answer) >> 32))
+#define HRT_PLACE(answer) ((uint32_t)((uint64_t)(answer) & 0xFFFFFFFFu)) /* of a refused call */
+
+/* What an answer of hrt_window says. */
+#define HRT_WINDOW_IS_REFUSED(answer) ((uint32_t)(answer) >= 65536u)
+#define HRT_WINDOW_NUMBER(answer) ((uint32_t)(answer) - 65536u) /* of a refused call */
+
 /* The least window T of a flow. */
 uint32_t hrt_window(const uint8_t *plan, size_t plan_bytes, uint32_t flow);
 
@@ -23,14 +50,14 @@ uint64_t hrt_flight(const uint8_t *plan, size_t plan_bytes, uint32_t flow);
 /* The length of the notes, which lead the file. */
 uint64_t hrt_notes(const uint8_t *plan, size_t plan_bytes);
 
-/* Makes the state of a plan: 8 + 10*F + 8*Sx*Sy words. Answers 0. */
+/* Makes the state of a plan, of HRT_STATE_WORDS(F, Sx, Sy) words, and leaves the words past it. Answers 0. */
 uint64_t hrt_reset(const uint8_t *plan, size_t plan_bytes, uint32_t *state, size_t state_words);
 
 /* Offers one packet of a flow. Answers 0. */
 uint64_t hrt_offer(uint32_t *state, size_t state_words, uint32_t flow);
 
 /* One cycle. Answers the number of exits, for each of which it delivers five words: flow, serial, entry cycle, exit cycle,
- * deflections. The delivery memory has at least 5*Sx*Sy words. */
+ * deflections. The delivery memory has at least HRT_DELIVERY_WORDS(Sx, Sy) words. */
 uint64_t hrt_step(uint32_t *state, size_t state_words, uint32_t *delivery, size_t delivery_words);
 
 /* Writes the plan file of a state, behind the given notes. Answers the file's length in bytes. */

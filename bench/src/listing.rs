@@ -14,7 +14,8 @@ pub fn plain() {
     stdout().write_all(text(&file).as_bytes()).unwrap();
 }
 
-fn text(file: &[u8]) -> String {
+/// What the listing in plain Rust prints for this file.
+pub fn text(file: &[u8]) -> String {
     use std::fmt::Write;
     let start = Plain.notes(file);
     let mut text = String::new();

@@ -8,6 +8,7 @@ mod plain;
 mod times;
 
 use plain::Plain;
+use second::compare;
 use second::compare::parts::{self, Extent};
 use std::process::exit;
 
@@ -30,23 +31,33 @@ fn main() {
             times::print_header();
             calls::engine(&second::archive::Archive);
         }
-        ["listing", program] => listing::time(program),
+        ["listing", program] if !program.starts_with("--") => listing::time(program),
         ["plain-listing"] => listing::plain(),
         ["agree"] => agree(),
-        _ => {
-            eprintln!("{USAGE}");
-            exit(2)
-        }
+        [part @ ("bounds" | "engine")] => wrong(&format!("it is built without the part {part}")),
+        ["listing"] => wrong("the part listing takes a program"),
+        ["bounds" | "engine" | "agree", word, ..]
+        | ["listing", _, word, ..]
+        | ["listing", word] => wrong(&format!("there is no option '{word}'")),
+        [part, ..] => wrong(&format!("there is no part '{part}'")),
+        [] => wrong("it takes a part"),
     }
 }
 
-/// The baseline is honest: it answers and writes what the second simulator does.
+fn wrong(why: &str) -> ! {
+    eprintln!("bench: {why}\n{USAGE}");
+    exit(2)
+}
+
+/// The baseline is honest: it answers, writes and prints what the second simulator does.
 fn agree() {
-    for tally in [parts::bounds(&Plain, 1, Extent::Gate), parts::engine(&Plain, 1, Extent::Gate)] {
-        println!(
-            "plain: {} answers and {} words or bytes, no difference",
-            tally.calls(),
-            tally.words
-        );
+    let plain_text = |file: &[u8]| listing::text(file).into_bytes();
+    for (part, tally) in [
+        ("bounds", parts::bounds(&Plain, 1, Extent::Gate)),
+        ("engine", parts::engine(&Plain, 1, Extent::Gate)),
+        ("listing", compare::listing::run(plain_text, 1, Extent::Gate)),
+    ] {
+        let (calls, memory) = (tally.calls(), tally.words);
+        println!("plain {part}: {calls} answers and {memory} words or bytes, no difference");
     }
 }

@@ -52,6 +52,17 @@ fn a_turning_packet_deflects_one_at_its_destination() {
     assert_eq!(flights, [7, 3]);
 }
 
+/// Serial 1 of flow 0 is deflected at its destination by flow 1's packet, and serial 2 passes it.
+#[test]
+fn a_flows_packets_out_of_order() {
+    let mut book = Book::new(four_by_four(&[[0, 0, 0, 1, 1, 2], [3, 1, 0, 1, 9, 1]]));
+    for flow in [0, 0, 1] {
+        book.offer(flow).unwrap();
+    }
+    let exits: Vec<_> = (0..6).flat_map(|_| book.step(80).unwrap()).collect();
+    assert_eq!(exits, [[1, 1, 0, 1, 0], [0, 2, 1, 2, 0], [0, 1, 0, 5, 1]]);
+}
+
 #[test]
 fn windows() {
     let f = [1, 0, 2, 0, 10, 1];
@@ -124,6 +135,16 @@ fn the_smallest_torus() {
         [vec![[0, 1, 0, 0, 0]], vec![[0, 2, 1, 1, 0]], vec![], vec![[0, 3, 3, 3, 0]]]
     );
     assert_eq!(book.lines[2].exit, Some((3, Router { row: 0, column: 0 })));
+}
+
+/// One column or one row, with a packet that crosses two links and one that goes round the end.
+#[test]
+fn one_column_and_one_row() {
+    let lines = [(0, 2, 0), (0, 1, 0)];
+    let flows = four_by_four(&[[0, 0, 0, 2, 9, 1], [0, 2, 0, 0, 9, 1]]).flows;
+    assert_eq!(one_packet_each(Plan { sx: 1, sy: 3, flows }), lines);
+    let flows = four_by_four(&[[0, 0, 2, 0, 9, 1], [2, 0, 0, 0, 9, 1]]).flows;
+    assert_eq!(one_packet_each(Plan { sx: 3, sy: 1, flows }), lines);
 }
 
 #[test]

@@ -1,130 +1,105 @@
 //! The comparison notices what it should: each of these faults, planted in the second simulator.
+//! And the comparing program tells wrong words.
 
-use second::calls;
+mod faults {
+    pub mod bounds;
+    pub mod engine;
+    pub mod listing;
+}
+
+use second::compare::listing;
 use second::compare::parts::{self, Extent};
-use second::host::{Engine, returned};
-use std::panic::{catch_unwind, set_hook, take_hook};
+use second::slips::refuted;
+use second::window::listing_by;
+use std::panic::{AssertUnwindSafe, catch_unwind, set_hook, take_hook};
+use std::process::Command;
 
-/// What a call gave, for a fault to change: its answer, the state, the deliveries of a step and
-/// the target of writing.
-struct Given<'a> {
-    call: &'static str,
-    answer: u64,
-    state: &'a mut [u32],
-    delivery: &'a mut [u32],
-    target: &'a mut [u8],
+/// A fault's name, and the comparison of a simulator that has it.
+type Planted<'a> = (String, Box<dyn Fn() + 'a>);
+
+fn in_the_engine() -> Vec<Planted<'static>> {
+    let planted = |(name, fault): &(&str, faults::engine::Fault)| -> Planted<'static> {
+        let host = faults::engine::Faulty(*fault);
+        (name.to_string(), Box::new(move || drop(parts::engine(&host, 1, Extent::Gate))))
+    };
+    faults::engine::FAULTS.iter().map(planted).collect()
 }
 
-impl Given<'_> {
-    fn accepted(&self) -> bool {
-        self.answer < 1 << 32
+fn in_the_bounds() -> Vec<Planted<'static>> {
+    let mut planted: Vec<Planted> = Vec::new();
+    for (name, fault) in faults::bounds::FAULTS {
+        let compared = || drop(parts::bounds(&faults::bounds::Faulty(fault), 1, Extent::Gate));
+        planted.push((name.to_string(), Box::new(compared)));
     }
-
-    fn stepped(&self) -> bool {
-        self.call == "step" && self.accepted()
+    for (name, told) in faults::bounds::UNTOLD {
+        let compared = || drop(parts::bounds(&faults::bounds::Untold(*told), 1, Extent::Gate));
+        planted.push((name.to_string(), Box::new(compared)));
     }
-
-    fn state_words(&self) -> usize {
-        let [sx, sy, flows] = [0, 1, 2].map(|at| self.state[at] as usize);
-        8 + 10 * flows + 8 * sx * sy
+    for row in refuted() {
+        let fault = faults::bounds::slipped(row.slip);
+        let compared =
+            move || drop(parts::bounds(&faults::bounds::Faulty(&fault), 1, Extent::Gate));
+        planted.push((format!("windows with {:?}", row.slip), Box::new(compared)));
     }
+    planted
 }
 
-/// The second simulator with a fault.
-struct Faulty(Fault);
-
-impl Faulty {
-    fn give(&self, mut given: Given) -> u64 {
-        self.0(&mut given);
-        given.answer
+fn in_the_listing() -> Vec<Planted<'static>> {
+    let mut planted: Vec<Planted> = Vec::new();
+    for (name, fault) in faults::listing::FAULTS {
+        let print = |file: &[u8]| fault(file, &second::window::listing(file)).into_bytes();
+        let compared = move || drop(listing::run(print, 1, Extent::Gate));
+        planted.push((name.to_string(), Box::new(compared)));
     }
+    for row in refuted() {
+        let rule = move |plan: &_, f| row.slip.window(plan, f);
+        let print = move |file: &[u8]| listing_by(file, rule).into_bytes();
+        let compared = move || drop(listing::run(print, 1, Extent::Gate));
+        planted.push((format!("a listing with {:?}", row.slip), Box::new(compared)));
+    }
+    planted
 }
 
-impl Engine for Faulty {
-    fn reset(&self, file: &[u8], state: &mut [u32]) -> u64 {
-        let answer = returned(calls::reset(file, state));
-        self.give(Given { call: "reset", answer, state, delivery: &mut [], target: &mut [] })
-    }
-
-    fn offer(&self, state: &mut [u32], flow: u32) -> u64 {
-        let answer = returned(calls::offer(state, flow));
-        self.give(Given { call: "offer", answer, state, delivery: &mut [], target: &mut [] })
-    }
-
-    fn step(&self, state: &mut [u32], delivery: &mut [u32]) -> u64 {
-        let answer = returned(calls::step(state, delivery));
-        self.give(Given { call: "step", answer, state, delivery, target: &mut [] })
-    }
-
-    fn write(&self, state: &[u32], notes: &[u8], target: &mut [u8]) -> u64 {
-        let answer = returned(calls::write(state, notes, target));
-        let state = &mut state.to_vec();
-        self.give(Given { call: "write", answer, state, delivery: &mut [], target })
-    }
+/// Does the comparison end in a difference that it tells?
+fn is_noticed(compared: &dyn Fn()) -> bool {
+    let Err(why) = catch_unwind(AssertUnwindSafe(compared)) else {
+        return false;
+    };
+    let told = why.downcast::<String>().unwrap();
+    told.contains("expected") || told.contains("left == right")
 }
-
-type Fault = fn(&mut Given);
-
-const FAULTS: &[(&str, Fault)] = &[
-    ("a step that stands still", |given| {
-        if given.stepped() {
-            given.state[3] -= 1;
-        }
-    }),
-    ("a count not found in the records", |given| given.answer += given.stepped() as u64),
-    ("a word past the exits", |given| {
-        let past = 5 * given.answer as usize;
-        if given.stepped() && past < given.delivery.len() {
-            given.delivery[past] ^= 1;
-        }
-    }),
-    ("deliveries one deflection short", |given| {
-        if given.stepped() && given.answer > 0 && given.delivery[4] > 0 {
-            given.delivery[4] -= 1;
-        }
-    }),
-    ("a word past the state", |given| {
-        if given.accepted() && given.call != "write" && given.state_words() < given.state.len() {
-            given.state[given.state_words()] = 0;
-        }
-    }),
-    ("an offer too many", |given| {
-        given.answer = if given.answer >> 32 == 13 { 0 } else { given.answer }
-    }),
-    ("a change in a refused step", |given| {
-        if given.call == "step" && given.answer >> 32 == 10 {
-            given.state[3] = 0;
-        }
-    }),
-    ("a reset that leaves the last word", |given| {
-        if given.call == "reset" && given.accepted() {
-            given.state[given.state_words() - 1] = 7;
-        }
-    }),
-    ("a place that isn't the flow", |given| {
-        given.answer = given.answer >> 32 << 32 | given.answer as u8 as u64 & 1
-    }),
-    ("8 where 9 comes first", |given| {
-        given.answer = if given.answer >> 32 == 9 { 8 << 32 } else { given.answer }
-    }),
-    ("a byte past the file", |given| {
-        if let Some(byte) = given.target.get_mut(given.answer as usize) {
-            *byte ^= 1;
-        }
-    }),
-];
 
 #[test]
 fn faults_are_noticed() {
     let hook = take_hook();
     set_hook(Box::new(|_| ()));
-    let missed: Vec<_> = FAULTS
+    let planted = [in_the_engine(), in_the_bounds(), in_the_listing()];
+    let missed: Vec<_> = planted
         .iter()
-        .filter(|(_, fault)| {
-            catch_unwind(|| parts::engine(&Faulty(*fault), 1, Extent::Gate)).is_ok()
-        })
+        .flatten()
+        .filter(|(_, compared)| !is_noticed(compared))
         .map(|(name, _)| name)
         .collect();
     set_hook(hook);
     assert!(missed.is_empty(), "not noticed: {missed:?}");
+}
+
+#[test]
+fn wrong_words_are_told() {
+    for (words, why) in [
+        ("", "it takes a part"),
+        ("listings", "there is no part 'listings'"),
+        ("listing", "the part listing takes a program"),
+        ("listing --seed 1", "the part listing takes a program"),
+        ("bounds --second 1", "there is no option '--second'"),
+        ("bounds --seconds", "--seconds takes a number"),
+        ("engine --seed one", "--seed takes a number"),
+        ("engine --seed 1 2", "there is no option '2'"),
+    ] {
+        let program = env!("CARGO_BIN_EXE_second");
+        let output = Command::new(program).args(words.split_whitespace()).output().unwrap();
+        let told = String::from_utf8(output.stderr).unwrap();
+        assert_eq!(output.status.code(), Some(2), "{words}");
+        assert!(told.starts_with(&format!("second: {why}\n")), "{words}: {told}");
+    }
 }

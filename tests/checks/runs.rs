@@ -1,12 +1,14 @@
-//! Random lists on the second simulator alone: 01's promises hold of its lines after each call,
-//! and its words are always a state that holds the same lines.
+//! Random lists on the second simulator alone. After each call 01's promises hold of the lines that
+//! can still change, and at the end of all lines; the entry promise is watched for all flows of a
+//! small plan and for one of a larger. Now and then the book's words are judged: they form a state,
+//! and that state's words are the same.
 
 use second::book::Book;
 use second::promises::{check, check_live, windows};
 use second::random::{Random, plan};
 use second::state::{judge, words};
 
-/// A list of offers and steps, with this many offers in a hundred calls.
+/// A list of so many calls: offers, some of them to a flow that isn't there, and steps.
 fn run(random: &mut Random, mut book: Book, calls: usize) {
     let flows = book.plan.flows.len();
     let watched = random.index(flows);
@@ -43,7 +45,7 @@ fn every_size() {
     }
 }
 
-/// Small plans with short periods, where packets deflect each other most.
+/// Few flows on a small torus, where the paths of packets cross most.
 #[test]
 fn crowded_small_plans() {
     let mut random = Random::new(3);

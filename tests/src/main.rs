@@ -1,7 +1,7 @@
 //! Compares the archive, or the listing program, with the second simulator.
 
-use second::compare::Tally;
 use second::compare::parts::Extent;
+use second::compare::{Tally, listing};
 use std::process::exit;
 use std::time::{SystemTime, UNIX_EPOCH};
 
@@ -15,34 +15,58 @@ const GATE_SEED: u64 = 1;
 fn main() {
     let arguments: Vec<String> = std::env::args().skip(1).collect();
     let words: Vec<&str> = arguments.iter().map(String::as_str).collect();
-    let seconds = option(&words, "--seconds");
-    let extent = seconds.map_or(Extent::Gate, Extent::Seconds);
-    let chosen = if seconds.is_some() { from_the_time() } else { GATE_SEED };
-    let seed = option(&words, "--seed").unwrap_or(chosen);
-    println!("{}: seed {seed}", words.first().unwrap_or(&"second"));
-    let tally = match words[..] {
-        ["bounds", ..] => bounds(seed, extent),
-        ["engine", ..] => engine(seed, extent),
-        ["listing", program, ..] => second::compare::listing::run(program, seed, extent),
-        _ => usage(),
+    let (part, program, options) = match words[..] {
+        [part @ ("bounds" | "engine"), ref options @ ..] => (part, "", Options::read(options)),
+        ["listing", program, ref options @ ..] if !program.starts_with("--") => {
+            ("listing", program, Options::read(options))
+        }
+        ["listing", ..] => wrong("the part listing takes a program"),
+        [part, ..] => wrong(&format!("there is no part '{part}'")),
+        [] => wrong("it takes a part"),
+    };
+    let extent = options.seconds.map_or(Extent::Gate, Extent::Seconds);
+    let chosen = if options.seconds.is_some() { from_the_time() } else { GATE_SEED };
+    let seed = options.seed.unwrap_or(chosen);
+    println!("{part}: seed {seed}");
+    let tally = match part {
+        "bounds" => bounds(seed, extent),
+        "engine" => engine(seed, extent),
+        _ => listing::run(|file| listing::printed(program, file), seed, extent),
     };
     for ((call, number), count) in &tally.answers {
         let answer = if *number == 0 { "accepted".into() } else { format!("refused {number}") };
         println!("{call:8} {answer:10} {count:9}");
     }
-    let (part, calls, memory) = (words[0], tally.calls(), tally.words);
+    let (calls, memory) = (tally.calls(), tally.words);
     println!("{part}: {calls} answers and {memory} words or bytes compared, no difference");
 }
 
-fn usage() -> ! {
-    eprintln!("{USAGE}");
+fn wrong(why: &str) -> ! {
+    eprintln!("second: {why}\n{USAGE}");
     exit(2)
 }
 
-fn option(words: &[&str], name: &str) -> Option<u64> {
-    let at = words.iter().position(|word| *word == name)?;
-    let value = words.get(at + 1).and_then(|word| word.parse().ok());
-    Some(value.unwrap_or_else(|| usage()))
+#[derive(Default)]
+struct Options {
+    seconds: Option<u64>,
+    seed: Option<u64>,
+}
+
+impl Options {
+    fn read(mut words: &[&str]) -> Options {
+        let mut options = Options::default();
+        while let [name, rest @ ..] = words {
+            let option = match *name {
+                "--seconds" => &mut options.seconds,
+                "--seed" => &mut options.seed,
+                _ => wrong(&format!("there is no option '{name}'")),
+            };
+            let value = rest.first().and_then(|word| word.parse().ok());
+            *option = Some(value.unwrap_or_else(|| wrong(&format!("{name} takes a number"))));
+            words = &rest[1..];
+        }
+        options
+    }
 }
 
 fn from_the_time() -> u64 {
@@ -56,7 +80,7 @@ fn bounds(seed: u64, extent: Extent) -> Tally {
 
 #[cfg(not(feature = "bounds"))]
 fn bounds(_: u64, _: Extent) -> Tally {
-    usage()
+    wrong("it is built without the part bounds")
 }
 
 #[cfg(feature = "engine")]
@@ -66,5 +90,5 @@ fn engine(seed: u64, extent: Extent) -> Tally {
 
 #[cfg(not(feature = "engine"))]
 fn engine(_: u64, _: Extent) -> Tally {
-    usage()
+    wrong("it is built without the part engine")
 }

@@ -89,6 +89,11 @@ pub fn flight_call(file: &[u8], flow: u32) -> Result<u64, Refusal> {
 
 /// What the listing prints for this file.
 pub fn listing(file: &[u8]) -> String {
+    listing_by(file, window)
+}
+
+/// The listing by some rule that gives T of a flow.
+pub fn listing_by(file: &[u8], window: impl Fn(&Plan, usize) -> Option<i64>) -> String {
     let plan = match read(file) {
         Ok((plan, _)) => plan,
         Err(no) => return format!("refused {} {}\n", no.number, no.place),

@@ -1,19 +1,19 @@
-//! The longest wait of a lone packet (q = 0), by trying all lists of offers of a small plan.
-//! A packet that waits hinders nobody, so it is enough to offer one in the cycle in which it
-//! enters; only the packet whose wait is measured is offered early.
+//! The longest wait of a lone packet (q = 0) of a flow f with a window, over all lists of offers of
+//! a small plan. Only packets that enter hinder others, so the lists that are tried offer a packet
+//! in the cycle in which it enters; only the packet of f whose wait is measured is offered early.
 
 use crate::book::{Book, Place};
 use crate::plan::Plan;
-use std::collections::HashMap;
+use std::collections::{HashMap, HashSet};
 
-/// The flows offered before each step, from reset on, and the wait of the last packet of f.
+/// The flows offered before each step, from reset on, and the wait of f's last packet.
 #[derive(Clone, Debug)]
 pub struct Worst {
     pub wait: i64,
     pub offers: Vec<Vec<u32>>,
 }
 
-/// What of a book decides its future: buckets, waiting packets, and the packets in their places.
+/// What of a book decides its future: buckets, how many wait, and each placed packet's flow and D.
 type Key = (Vec<(i64, i64)>, Vec<usize>, Vec<(Place, usize, i64)>);
 
 fn key(book: &Book) -> Key {
@@ -28,7 +28,8 @@ fn key(book: &Book) -> Key {
     (buckets, waiting, packets)
 }
 
-/// The book after one cycle in which exactly these flows enter. None where one of them can't.
+/// The book after one cycle in which these flows are offered a packet and enter, and besides them
+/// only a packet that waited before. None where one of them can't enter.
 fn cycle(book: &Book, entering: &[u32]) -> Option<Book> {
     if entering.iter().any(|&flow| book.buckets[flow as usize].tokens == 0) {
         return None;
@@ -57,12 +58,13 @@ fn sets(flows: usize) -> Vec<Vec<u32>> {
 struct Search {
     f: usize,
     sets: Vec<Vec<u32>>,
-    /// For a book in which f waits: how long at worst, and what is offered in this cycle.
+    /// For a book in which f waits: how long at worst, and what is offered in this cycle so that
+    /// it does.
     longest: HashMap<Key, (i64, Vec<u32>)>,
 }
 
 impl Search {
-    /// The cycles that f's waiting packet goes without entering, from this book on.
+    /// The most cycles that f's waiting packet can go without entering, from this book on.
     fn wait(&mut self, book: &Book) -> i64 {
         let key = key(book);
         if let Some((wait, _)) = self.longest.get(&key) {
@@ -91,9 +93,10 @@ pub fn worst_wait(plan: &Plan, f: usize) -> Worst {
     let without_f: Vec<_> = sets.iter().filter(|set| !set.contains(&(f as u32))).cloned().collect();
     let mut search = Search { f, sets: without_f, longest: HashMap::new() };
     let mut worst = Worst { wait: -1, offers: Vec::new() };
-    // Every book that a list reaches, by breadth: the book, how it came about, and its key.
+    // Every book that such a list reaches, by breadth, one for each key: the book, the number of
+    // the book before it, and the flows that entered between them.
     let mut books = vec![(Book::new(plan.clone()), 0, Vec::new())];
-    let mut seen = HashMap::from([(key(&books[0].0), 0)]);
+    let mut seen = HashSet::from([key(&books[0].0)]);
     let mut at = 0;
     while at < books.len() {
         let book = books[at].0.clone();
@@ -107,10 +110,9 @@ pub fn worst_wait(plan: &Plan, f: usize) -> Worst {
             let Some(next) = cycle(&book, set) else {
                 continue;
             };
-            seen.entry(key(&next)).or_insert_with(|| {
+            if seen.insert(key(&next)) {
                 books.push((next, at, set.clone()));
-                books.len() - 1
-            });
+            }
         }
         at += 1;
     }

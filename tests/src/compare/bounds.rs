@@ -3,6 +3,7 @@
 use super::{Call, Tally, plans};
 use crate::host::{Bounds, returned_window};
 use crate::random::{self, Random};
+use crate::slips::refuted;
 use crate::{calls, window};
 
 /// Each call has been accepted, and refused with each number that it has.
@@ -27,8 +28,13 @@ fn notes_and_flight(host: &impl Bounds, tally: &mut Tally, file: &[u8], flow: u3
     tally.answer(call, window::flight_call(file, flow), host.flight(file, flow));
 }
 
-/// Every boundary, once.
+/// The plans that refute a slipped window, and every boundary, once.
 pub fn boundaries(host: &impl Bounds, tally: &mut Tally) {
+    for plan in refuted().into_iter().map(|row| row.plan) {
+        for flow in 0..=plan.flows.len() as u32 {
+            all_three(host, tally, &plan.file(&[]), flow);
+        }
+    }
     for file in plans::at_boundaries() {
         all_three(host, tally, &file, 0);
         for flow in [1, 2, 3, 255, 256, 257, 65_536, u32::MAX] {

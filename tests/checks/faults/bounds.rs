@@ -1,0 +1,165 @@
+//! Faults of the window, the flight bound and the notes.
+
+use second::calls;
+use second::host::{Bounds, returned, returned_window};
+use second::plan::{MOST_BYTES, Plan, read};
+use second::slips::Slip;
+use second::window::{flight_call, window_call};
+
+/// What a call gave, for a fault to change: its answer, as 64-bit answers are, and what it is of.
+pub struct Given<'a> {
+    call: &'static str,
+    file: &'a [u8],
+    flow: u32,
+    answer: u64,
+}
+
+impl Given<'_> {
+    fn refused(&self) -> bool {
+        self.answer >> 32 != 0
+    }
+
+    /// The plan and the flow's number, where the call is accepted.
+    fn accepted(&self) -> Option<(Plan, usize)> {
+        let (plan, _) = read(self.file).ok()?;
+        (!self.refused()).then_some((plan, self.flow as usize))
+    }
+}
+
+/// The second simulator with a fault.
+pub struct Faulty<'a>(pub &'a dyn Fn(&mut Given));
+
+impl Faulty<'_> {
+    fn give(&self, call: &'static str, file: &[u8], flow: u32, answer: calls::Answer) -> u64 {
+        let mut given = Given { call, file, flow, answer: returned(answer) };
+        self.0(&mut given);
+        given.answer
+    }
+}
+
+impl Bounds for Faulty<'_> {
+    fn window(&self, file: &[u8], flow: u32) -> u32 {
+        match self.give("window", file, flow, window_call(file, flow)) {
+            t if t >> 32 == 0 => t as u32,
+            refused => 65_536 + (refused >> 32) as u32,
+        }
+    }
+
+    fn flight(&self, file: &[u8], flow: u32) -> u64 {
+        self.give("flight", file, flow, flight_call(file, flow))
+    }
+
+    fn notes(&self, file: &[u8]) -> u64 {
+        self.give("notes", file, 0, calls::notes(file))
+    }
+}
+
+/// T of every flow with a slip.
+pub fn slipped(slip: Slip) -> impl Fn(&mut Given) {
+    move |given| {
+        if let ("window", Ok((plan, _))) = (given.call, read(given.file))
+            && (given.flow as usize) < plan.flows.len()
+        {
+            let flow = given.flow as u64;
+            let t = slip.window(&plan, flow as usize);
+            given.answer = t.map_or(14 << 32 | flow, |t| t as u64);
+        }
+    }
+}
+
+pub const FAULTS: &[(&str, fn(&mut Given))] = &[
+    ("Sy charged for a deflection", |given| {
+        if let ("flight", Some((plan, f))) = (given.call, given.accepted()) {
+            given.answer = (plan.dx(f) + plan.dy(f) + plan.dy(f) * plan.sy + 2) as u64;
+        }
+    }),
+    ("the last row spared by the flight bound", |given| {
+        if let ("flight", Some((plan, f))) = (given.call, given.accepted())
+            && plan.dy(f) > 0
+        {
+            given.answer -= plan.sx as u64;
+        }
+    }),
+    ("a flight counted as exit - entry", |given| {
+        given.answer -= if given.call == "flight" && !given.refused() { 2 } else { 0 }
+    }),
+    ("a flow too many", |given| {
+        if given.answer >> 32 == 12 && given.call == "flight" {
+            given.answer = returned(flight_call(given.file, given.flow - 1));
+        }
+    }),
+    ("12 before the plan's refusals", |given| {
+        if given.call != "notes" && given.refused() && given.flow > 255 {
+            given.answer = 12 << 32;
+        }
+    }),
+    ("no window answered as 65,535", |given| {
+        given.answer = if given.answer >> 32 == 14 { 65_535 } else { given.answer }
+    }),
+    ("the last window not found", |given| {
+        if given.call == "window" && given.answer == 65_535 {
+            given.answer = 14 << 32;
+        }
+    }),
+    ("notes up to the trailer", |given| {
+        if given.call == "notes" && !given.refused() {
+            given.answer = given.file.len() as u64 - 12;
+        }
+    }),
+    ("notes on a refusal", |given| {
+        given.answer = if given.call == "notes" && given.refused() { 0 } else { given.answer }
+    }),
+    ("7 before 6", |given| {
+        let (number, place) = (given.answer >> 32, given.answer as u32 as usize);
+        let trailer = given.file.len().saturating_sub(12);
+        if number == 6 {
+            let start = u32::from_le_bytes(given.file[trailer..][..4].try_into().unwrap());
+            let record = &given.file[start as usize + 8 * place..][..8];
+            if record[4..6] == [0, 0] || record[6] == 0 || record[7] != 0 {
+                given.answer += 1 << 32;
+            }
+        }
+    }),
+    ("a place that isn't the flow", |given| {
+        given.answer -= if given.refused() { given.answer as u32 as u64 } else { 0 }
+    }),
+    ("a byte too many taken", |given| {
+        if given.file.len() == MOST_BYTES + 1 {
+            given.answer = returned(calls::notes(&given.file[1..]));
+        }
+    }),
+    ("a start that wraps", |given| {
+        if given.answer >> 32 == 5 {
+            let (body, trailer) = given.file.split_at(given.file.len() - 12);
+            let start = u32::from_le_bytes(trailer[..4].try_into().unwrap());
+            let count = u16::from_le_bytes(trailer[4..6].try_into().unwrap()) as u32;
+            if start.wrapping_add(8 * count) == body.len() as u32 {
+                given.answer = 0;
+            }
+        }
+    }),
+];
+
+/// Answers of the window call that don't tell a refusal as they should.
+pub struct Untold(pub fn(calls::Answer) -> u32);
+
+pub const UNTOLD: &[(&str, fn(calls::Answer) -> u32)] = &[
+    ("a refusal below 65,536", |answer| returned_window(answer) % 65_536),
+    ("the place for the number", |answer| {
+        answer.map_or_else(|no| 65_536 + no.place as u32, |t| t as u32)
+    }),
+];
+
+impl Bounds for Untold {
+    fn window(&self, file: &[u8], flow: u32) -> u32 {
+        self.0(window_call(file, flow))
+    }
+
+    fn flight(&self, file: &[u8], flow: u32) -> u64 {
+        returned(flight_call(file, flow))
+    }
+
+    fn notes(&self, file: &[u8]) -> u64 {
+        returned(calls::notes(file))
+    }
+}

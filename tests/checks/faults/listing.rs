@@ -1,0 +1,75 @@
+//! Faults of the listing, as what it prints in place of the right text for a file.
+
+use second::plan::MOST_BYTES;
+use second::window::listing;
+
+/// What a faulty listing prints for a file whose right listing is this text.
+pub type Fault = fn(&[u8], &str) -> String;
+
+pub const FAULTS: &[(&str, Fault)] = &[
+    ("a line too few", |_, text| match text.trim_end().rsplit_once('\n') {
+        Some((lines, _)) => format!("{lines}\n"),
+        None => text.into(),
+    }),
+    ("flows from 1", |_, text| {
+        of_each_line(text, |fields| fields[0] = (number(&fields[0]) + 1).to_string())
+    }),
+    ("the other port", |_, text| {
+        of_each_line(text, |fields| {
+            fields[1] = if fields[1] == "E" { "S" } else { "E" }.into();
+        })
+    }),
+    ("0 for no window", |_, text| text.replace('-', "0")),
+    ("no flight bound without a window", |_, text| {
+        of_each_line(text, |fields| {
+            if fields[2] == "-" {
+                fields[3] = "-".into();
+            }
+        })
+    }),
+    ("a flight bound of exit - entry", |_, text| {
+        of_each_line(text, |fields| fields[3] = (number(&fields[3]) - 2).to_string())
+    }),
+    ("a wait one cycle short", |_, text| {
+        of_each_line(text, |fields| {
+            if fields[4] != "-" {
+                fields[4] = (number(&fields[4]) - 1).to_string();
+            }
+        })
+    }),
+    ("two spaces between fields", |_, text| text.replace(' ', "  ")),
+    ("no newline at the end", |_, text| text.trim_end().into()),
+    ("a header before a refusal", |_, text| match is_refused(text) {
+        true => format!("flow port window flight wait\n{text}"),
+        false => text.into(),
+    }),
+    ("a refusal without its flow", |_, text| match is_refused(text) {
+        true => format!("{} 0\n", text.rsplit_once(' ').unwrap().0),
+        false => text.into(),
+    }),
+    ("only so many bytes read as a plan may have", |file, _| {
+        listing(&file[..file.len().min(MOST_BYTES)])
+    }),
+];
+
+fn is_refused(text: &str) -> bool {
+    text.starts_with("refused")
+}
+
+fn number(field: &str) -> i64 {
+    field.parse().unwrap()
+}
+
+/// Changes the five fields of each flow's line.
+fn of_each_line(text: &str, change: impl Fn(&mut Vec<String>)) -> String {
+    if is_refused(text) {
+        return text.into();
+    }
+    let (header, lines) = text.split_once('\n').unwrap();
+    let changed = |line: &str| {
+        let mut fields: Vec<String> = line.split(' ').map(String::from).collect();
+        change(&mut fields);
+        fields.join(" ") + "\n"
+    };
+    format!("{header}\n{}", lines.lines().map(changed).collect::<String>())
+}
