@@ -6,7 +6,7 @@ use Rattle.flow.specs.declared.Flow.{Flow}
 use Rattle.flow.specs.Plan.{Plan}
 use Rattle.window.specs.Cases as Window
 use Rattle.book.specs.Book.{bucketAt}
-use Rattle.book.specs.Cycle.{Delivery}
+use Rattle.router.specs.Delivery.{Delivery}
 use Rattle.book.specs.Calls.{Call, offer, step, run}
 
 -- a flow from (xs,ys) to (xd,yd) with period P and burst 1
