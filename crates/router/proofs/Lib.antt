@@ -3,3 +3,4 @@ pub mod Links
 pub mod Rule
 pub mod Entrant
 pub mod Path
+pub mod InPlace
