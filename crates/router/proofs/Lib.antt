@@ -1,1 +1,4 @@
 -- The laws of links and of the routing rule.
+pub mod Links
+pub mod Rule
+pub mod Entrant
