@@ -11,15 +11,19 @@ use Rattle.flow.specs.declared.Port.{Port}
 use Rattle.flow.specs.declared.Port.the-variants.{East, South}
 use Rattle.flow.specs.Offsets.{portOf, samePort}
 use Rattle.flow.specs.Plan.{Plan, flowAt}
-use Rattle.place.specs.Place.{W, N}
-use Rattle.router.specs.Rule.{Seen, turnsSouth, Way, via, leave, sameWay, atHome, wayBy, takes, isOpen}
+use Rattle.router.specs.Rule.{Seen, noPacket, turnsSouth, Way, via, leave, sameWay, atHome, wayBy, takes, isOpen}
 use Rattle.router.proofs.Entrant.{Found, no-entrant, has-entrant, found, ready-parts}
 use Rattle.state.specs.declared.Register.{Register}
 use Rattle.state.specs.declared.Register.the-variants.{Empty, Packet}
 use Rattle.state.specs.State.{State, cellAt}
 use Rattle.cycle.specs.Seen.{shown, seen, view}
 use Rattle.cycle.specs.Step.{entering, sendsBy, sentBy, carried, leaving, delivered}
-use Rattle.cycle.specs.Sent.{sentEast, sentSouth, clientSends, eastward, southward, exits}
+use Rattle.cycle.specs.Sent.{isEmpty, sentEast, sentSouth, clientSends, eastward, southward, exits}
+
+-- a register shows no packet where it is empty
+pub shows-none : (p : Plan) (r : Register) → noPacket (shown p r) ≡ isEmpty r
+shows-none p Empty = refl
+shows-none p (Packet flow serial entry deflections) = refl
 
 -- by a way out, of what goes E and what goes S, where that exits or not
 abbrev by : Way → (exit : Bool) → (east south : Register) → Register
