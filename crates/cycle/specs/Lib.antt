@@ -3,4 +3,4 @@ pub mod Seen
 pub mod Step
 pub mod Offer
 pub mod Calls
-pub mod Bounds
+pub mod Sent
