@@ -4,3 +4,4 @@ pub mod Rule
 pub mod Entrant
 pub mod Path
 pub mod InPlace
+pub mod Delivery

@@ -17,7 +17,9 @@ use Rattle.plan.specs.declared.Answer.the-variants.{Refused}
 use Rattle.plan.specs.Layout.{planOf}
 use Rattle.plan.proofs.Ranges.{plan-ok}
 use Rattle.book.specs.Book.{Book, start}
-use Rattle.book.specs.Cycle.{Delivery, deliveries, wordsOf}
+use Rattle.router.specs.Delivery.{Delivery, wordsOf}
+use Rattle.router.proofs.Delivery.{words-append, words-length}
+use Rattle.book.specs.Cycle.{deliveries}
 use Rattle.book.specs.Calls.{Call, Fed, refusal, judged, feed, Run, runFrom, run}
 use Rattle.book.specs.Calls as BookCalls
 use Rattle.book.proofs.Kept.{Kept, feed-cases, kept-start, kept-feed, kept-run}
@@ -31,16 +33,10 @@ use Rattle.state.proofs.Words.{length-words}
 use Rattle.reset.proofs.Accepted.{accepted, leaves}
 use Rattle.run.specs.List.{Asked, offer, step, write, reset, onWords, Item, onMemory, memoryAfter, Role, feeds, resets, role, tooLittle, roleIn, MayCome, IsList, fedAs, fed, beside, outcomes, bookMemory, due, expected, wordCount, deliveredBy, deliveredWords, EveryList}
 use Rattle.run.specs.View.{bookState}
-use Rattle.run.proofs.Delivery.{words-append}
 use Rattle.run.proofs.Offer.{start-follows}
 use Rattle.run.proofs.Memory.{image, image-part, image-rest, number, short}
 use Rattle.run.proofs.Calls.{offer-on, step-on, write-on, short-offer, short-step, short-write}
 use Rattle.run.proofs.Reset.{reset-refused}
-
--- five words for each delivery
-words-length : (ds : List Delivery) → length (wordsOf ds) ≡ 5 * length ds
-words-length [] = refl
-words-length (d ∷ ds) = omega (arith, words-length ds)
 
 -- the words that a fed call's answer counts are those that the book delivers
 fed-words : (p : Plan) (b : Book) (c : Call) (other : List ℕ) → let now : Fed = feed p b c in
