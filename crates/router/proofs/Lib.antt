@@ -2,3 +2,4 @@
 pub mod Links
 pub mod Rule
 pub mod Entrant
+pub mod Delivery
