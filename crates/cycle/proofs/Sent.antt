@@ -18,7 +18,7 @@ use Rattle.state.specs.declared.Register.the-variants.{Empty, Packet}
 use Rattle.state.specs.State.{State, cellAt}
 use Rattle.cycle.specs.Seen.{shown, seen, view}
 use Rattle.cycle.specs.Step.{entering, sendsBy, sentBy, carried, leaving, delivered}
-use Rattle.cycle.specs.Sent.{isEmpty, sentEast, sentSouth, clientSends, eastward, southward, exits}
+use Rattle.cycle.specs.Sent.{isEmpty, sentEast, sentSouth, enteringBy, eastward, southward, exits}
 
 -- a register shows no packet where it is empty
 pub shows-none : (p : Plan) (r : Register) → noPacket (shown p r) ≡ isEmpty r
@@ -100,15 +100,15 @@ module _ (s : State) (x y : ℕ) where
   Here = Found (s .plan) (view s) x y
 
   -- what the client sends by each way, and by each port
-  client-sends : (o : Way) {who : Option ℕ} → Here who
-      → sendsBy s o who ≡ out (s .plan) x y o (clientSends s East who) (clientSends s South who)
-  unfolding sendsBy clientSends exits
-  client-sends o (no-entrant none-ready) = sym (nothing o)
-  client-sends o (has-entrant f e) =
+  client-by : (o : Way) {who : Option ℕ} → Here who
+      → sendsBy s o who ≡ out (s .plan) x y o (enteringBy s East who) (enteringBy s South who)
+  unfolding sendsBy enteringBy exits
+  client-by o (no-entrant none-ready) = sym (nothing o)
+  client-by o (has-entrant f e) =
       rw (e .column, e .row) (entered (s .plan) _ _ (portOf (s .plan .sx) (flowAt (s .plan) f)) o f _ _)
 
-  client-shut : (o : Port) {who : Option ℕ} → Here who → isOpen (seen s x y) x o ≡ false → clientSends s o who ≡ Empty
-  unfolding clientSends
+  client-shut : (o : Port) {who : Option ℕ} → Here who → isOpen (seen s x y) x o ≡ false → enteringBy s o who ≡ Empty
+  unfolding enteringBy
   client-shut o (no-entrant none-ready) h = refl
   client-shut o (has-entrant f e) h =
       let opened = ready-parts (s .plan) (view s) f (e .is-ready) .opened in
@@ -118,7 +118,7 @@ module _ (s : State) (x y : ℕ) where
   unfolding carried eastward southward
   carried-is o =
       let who = found (s .plan) (view s) x y in
-      rw (client-sends o who) (sent (s .plan) x y ((cellAt s x y) .west) ((cellAt s x y) .north) _ _ (client-shut East who) (client-shut South who) o)
+      rw (client-by o who) (sent (s .plan) x y ((cellAt s x y) .west) ((cellAt s x y) .north) _ _ (client-shut East who) (client-shut South who) o)
 
   -- what the code sends E, sends S and delivers
   pub east-is : carried s x y (via East) ≡ eastward s x y

@@ -35,21 +35,21 @@ sentEast turning west north client = cond turning (deflected north) (orElse west
 abbrev pub sentSouth : (turning : Bool) → (west north client : Register) → Register
 sentSouth turning west north client = cond turning west (orElse north client)
 
--- what a client sends by a port, by the flow that enters there
-unfoldable pub clientSends : State → Port → Option ℕ → Register
-clientSends s port none = Empty
-clientSends s port (some f) = cond (samePort (portOf (s .plan .sx) (flowAt (s .plan) f)) port) (entering s f) Empty
+-- the packet that enters by a port, by the flow that enters there
+unfoldable pub enteringBy : State → Port → Option ℕ → Register
+enteringBy s port none = Empty
+enteringBy s port (some f) = cond (samePort (portOf (s .plan .sx) (flowAt (s .plan) f)) port) (entering s f) Empty
 
 -- what the router in column x and row y sends E, and what it sends S or delivers
 unfoldable pub eastward : State → (x y : ℕ) → Register
 eastward s x y =
     sentEast (turnsSouth x (shown (s .plan) ((cellAt s x y) .west))) ((cellAt s x y) .west) ((cellAt s x y) .north)
-    (clientSends s East (entrant (s .plan) (view s) x y))
+    (enteringBy s East (entrant (s .plan) (view s) x y))
 
 unfoldable pub southward : State → (x y : ℕ) → Register
 southward s x y =
     sentSouth (turnsSouth x (shown (s .plan) ((cellAt s x y) .west))) ((cellAt s x y) .west) ((cellAt s x y) .north)
-    (clientSends s South (entrant (s .plan) (view s) x y))
+    (enteringBy s South (entrant (s .plan) (view s) x y))
 
 -- a packet that goes S from the router in column x and row y exits there
 unfoldable pub exits : Plan → (x y : ℕ) → Register → Bool

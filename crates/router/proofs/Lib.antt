@@ -1,4 +1,4 @@
--- The laws of links and of the routing rule.
+-- The laws of links, of the routing rule and of a packet's path under it.
 pub mod Links
 pub mod Rule
 pub mod Entrant
