@@ -18,9 +18,8 @@ use Rattle.laws.proofs.Keep.{keep-same, keep-none, length-keep}
 use Rattle.flow.specs.declared.Flow.{Flow}
 use Rattle.flow.specs.Offsets.{portOf}
 use Rattle.flow.specs.Plan.{Plan, flowAt}
-use Rattle.place.specs.Place.{Place, W, N, columnOf, rowOf, samePlace}
-use Rattle.router.specs.Rule.{Seen, Way, sameWay, takes, isOpen, isClient, isFlow, entrant, wayBy, wayIn}
-use Rattle.router.proofs.Links.{place-same}
+use Rattle.place.specs.Place.{Place, W, N, columnOf, rowOf}
+use Rattle.router.specs.Rule.{Seen, Way, sameWay, takes, isClient, isFlow, entrant, wayIn}
 use Rattle.router.proofs.Rule.{way-same, takes-own, north-yields, open-west, open-north}
 use Rattle.router.proofs.Entrant.{Found, no-entrant, has-entrant, found, entering-ready, enters-at}
 use Rattle.book.specs.Line.{Stage, waiting, placed, left, Line, isWaiting, standsIn}

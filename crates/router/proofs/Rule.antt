@@ -1,5 +1,5 @@
 -- Laws of rules 1 to 3 in one router: no two packets take one way out, and an open port is one that nobody takes. Rests on specs/Rule.
-use mathlib.Core.Bool.{Bool, true, false, cond, not, _&&_, false≢true}
+use mathlib.Core.Bool.{true, false, not, _&&_, false≢true}
 use mathlib.Core.Logic.{inl, inr}
 use mathlib.Core.Option.{Option, none, some}
 use mathlib.Core.Path.{_≡_, refl, sym, ap, _∙_}
