@@ -24,6 +24,9 @@ pub test : (b : Bool) → (b ≡ true) ⊎ (b ≡ false)
 test true = inl refl
 test false = inr refl
 
+pub never : (b : Bool) → (b ≡ true → ⊥) → b ≡ false
+never b h = elim (test b) [ inl t ↦ absurd (h t) | inr t ↦ t ]
+
 pub and-true : (a b : Bool) → a && b ≡ true → (a ≡ true) × (b ≡ true)
 and-true true b e = (refl, e)
 and-true false b e =

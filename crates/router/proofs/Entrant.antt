@@ -71,6 +71,9 @@ module _ (p : Plan) (v : View) where
       own (no-entrant low) e = absurd (false≢true e)
       own (has-entrant g h) e = subst (Entrant ((flowAt p f) .xs) ((flowAt p f) .ys)) (eqb-true g f e) h
 
+  pub entering-ready : (f : ℕ) → enters p v f ≡ true → Ready f
+  entering-ready f e = ready-parts f (entering f e .is-ready)
+
   -- no lower-numbered flow of the client is ready
   pub lowest-enters : (f g : ℕ) → enters p v f ≡ true → ready p v g ≡ true → sameClient (flowAt p f) (flowAt p g) ≡ true → f ≤ g
   lowest-enters f g e r same =

@@ -4,7 +4,7 @@ use mathlib.Core.Logic.{inl, inr}
 use mathlib.Core.Option.{Option, none, some}
 use mathlib.Core.Path.{_≡_, refl, sym, ap, _∙_}
 use Prim.Native.Nat.{ℕ}
-use borrow.Author.Tests.{not-true}
+use borrow.Author.Tests.{eqb-true, not-true}
 use lib.Dec.{eqb}
 use Rattle.laws.proofs.Cases.{test, and-true}
 use Rattle.flow.specs.declared.Flow.{Flow}
@@ -12,15 +12,26 @@ use Rattle.flow.specs.declared.Port.{Port}
 use Rattle.flow.specs.declared.Port.the-variants.{East, South}
 use Rattle.flow.specs.Offsets.{samePort}
 use Rattle.place.specs.Place.{Place, W, N, columnOf, rowOf}
-use Rattle.router.specs.Rule.{Seen, noPacket, turnsSouth, portFrom, deflects, Way, via, leave, sameWay, atHome, wayBy, wayFrom, heldIn, takenBy, takes, isOpen}
+use Rattle.router.specs.Rule.{Seen, noPacket, turnsSouth, portFrom, deflects, isOpen}
+use Rattle.router.specs.Rule.{Way, via, leave, sameWay, atHome, wayBy, wayFrom, heldIn, takenBy, takes}
 
 pub way-refl : (o : Way) → sameWay o o ≡ true
 way-refl (via East) = refl
 way-refl (via South) = refl
 way-refl leave = refl
 
+pub way-same : (a b : Way) → sameWay a b ≡ true → a ≡ b
+way-same (via East) (via East) h = refl
+way-same (via East) (via South) h = absurd (false≢true h)
+way-same (via South) (via East) h = absurd (false≢true h)
+way-same (via South) (via South) h = refl
+way-same (via o) leave h = absurd (false≢true h)
+way-same leave (via o) h = absurd (false≢true h)
+way-same leave leave h = refl
+
 -- by two ports there are two ways out
-ways-apart : (x y : ℕ) (f g : Flow) (a b : Port) → samePort a b ≡ false → (o : Way) → sameWay (wayBy x y f a) o ≡ true → sameWay (wayBy x y g b) o ≡ false
+ways-apart : (x y : ℕ) (f g : Flow) (a b : Port) → samePort a b ≡ false
+    → (o : Way) → sameWay (wayBy x y f a) o ≡ true → sameWay (wayBy x y g b) o ≡ false
 ways-apart x y f g East East h o t = absurd (false≢true (sym h))
 ways-apart x y f g East South h (via East) t = elim (test (atHome x y g)) [ inl e ↦ rw e | inr e ↦ rw e ]
 ways-apart x y f g East South h (via South) t = absurd (false≢true t)
@@ -35,6 +46,11 @@ empty-stays : (x : ℕ) (w : Option Flow) → noPacket w ≡ true → turnsSouth
 unfolding turnsSouth
 empty-stays x none h = refl
 empty-stays x (some f) h = absurd (false≢true h)
+
+turns-some : (x : ℕ) (w : Option Flow) → turnsSouth x w ≡ true → (f : Flow) × (w ≡ some f) × (x ≡ f .xd)
+unfolding turnsSouth
+turns-some x none h = absurd (false≢true h)
+turns-some x (some f) h = (f, refl, eqb-true x (f .xd) h)
 
 module _ (s : Seen) (x y : ℕ) where
   -- W's packet and N's go by two ports
@@ -93,3 +109,33 @@ module _ (s : Seen) (x y : ℕ) where
 
   pub open-north : (o : Port) (f : Flow) → isOpen s x o ≡ true → takes s (N x y) (wayBy x y f o) ≡ false
   open-north o f h = elsewhere s (N x y) f o (λ g e. north-elsewhere s x y o g h e) (wayBy x y f o) (way-refl (wayBy x y f o))
+
+-- the packet of flow g in a register closes a port of its router: E by being in W, S by going there
+abbrev pub Closes : Seen → Flow → Place → Port → Type 0
+Closes s g (W x y) East = Unit {0}
+Closes s g (N x y) East = ⊥
+Closes s g (W x y) South = x ≡ g .xd
+Closes s g (N x y) South = turnsSouth x (s .west) ≡ false
+
+-- a closed port is closed by a packet
+pub data Closed (s : Seen) (x y : ℕ) (o : Port) : Type 0 where
+  by-west : (g : Flow) → s .west ≡ some g → Closes s g (W x y) o → Closed s x y o
+  by-north : (g : Flow) → s .north ≡ some g → Closes s g (N x y) o → Closed s x y o
+
+module _ (s : Seen) (x y : ℕ) where
+  south-closed : turnsSouth x (s .west) ≡ false → (north : Option Flow) → s .north ≡ north → noPacket north && true ≡ false → Closed s x y South
+  south-closed clear none e shut = absurd (false≢true (sym shut))
+  south-closed clear (some g) e shut = by-north g e clear
+
+  pub closed : (o : Port) → isOpen s x o ≡ false → Closed s x y o
+  unfolding isOpen
+  closed East shut = held (s .west) refl shut
+    where
+      held : (west : Option Flow) → s .west ≡ west → noPacket west ≡ false → Closed s x y East
+      held none e h = absurd (false≢true (sym h))
+      held (some g) e h = by-west g e tt
+  closed South shut =
+      elim (test (turnsSouth x (s .west))) [
+        | inl turn ↦ let g = turns-some x (s .west) turn in by-west (g .0) (g .1) (g .2)
+        | inr clear ↦ south-closed clear (s .north) refl (rw clear at shut)
+      ]

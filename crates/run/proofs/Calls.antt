@@ -1,67 +1,85 @@
 -- Each call on state memory that holds the words of a book: its answer and all memory lent are the book's. Rests on Memory,
 -- Offer, Step and Delivery.
+use mathlib.Core.Bool.{cond}
 use mathlib.Core.List.{List}
 use mathlib.Core.Logic.{inl, inr}
-use mathlib.Core.Path.{_≡_}
-use Prim.Native.Nat.{ℕ}
+use mathlib.Core.Path.{_≡_, refl}
+use Prim.Native.Nat.{ℕ, zero, suc, _<_}
 use borrow.Author.Tests.{leb-false}
-use lib.Dec.{ltb, leb, eqb}
+use lib.Dec.{leb}
 use lib.ListN.{length}
-use Rattle.laws.proofs.Cases.{test}
+use Rattle.laws.proofs.Cases.{test, passed}
 use Rattle.flow.specs.Plan.{Plan}
 use Rattle.book.specs.Book.{Book, waitingOf}
-use Rattle.book.specs.Cycle.{wordsOf}
-use Rattle.flow.specs.Limits.{roomFor, lastClock, mostWaiting, offerNumber, stepNumber}
-use Rattle.book.specs.Calls.{Fed, feed, refusal}
+use Rattle.router.specs.Delivery.{wordsOf}
+use Rattle.flow.specs.Limits.{mostWaiting, offerNumber, stepNumber}
+use Rattle.book.specs.Calls.{Fed, judged, feed, refusal}
 use Rattle.book.specs.Calls as BookCalls
 use Rattle.book.proofs.Kept.{Kept}
-use Rattle.state.specs.Outcome.{outcome, lent, refused, unless, over}
-use Rattle.state.specs.Forms.{stateNumber}
+use Rattle.plan.specs.declared.Answer.the-variants.{Done}
 use Rattle.plan.specs.Written.{planBytes}
+use Rattle.state.specs.State.{tallyAt}
+use Rattle.state.specs.Words.{stateWords}
+use Rattle.state.specs.Forms.{stateNumber}
+use Rattle.state.specs.Outcome.{outcome, lent, refused, unless, over}
 use Rattle.state.specs.Calls.{bytesOn, writeOn}
+use Rattle.cycle.specs.Offer.{offerState}
+use Rattle.cycle.specs.Step.{stepState, deliveries}
 use Rattle.cycle.specs.Calls.{offerOn, stepOn}
+use Rattle.run.specs.View.{bookState}
 use Rattle.run.proofs.View.{tally-at}
 use Rattle.run.proofs.Step.{step-follows}
-use Rattle.run.proofs.Delivery.{delivers-follow, count-follows}
+use Rattle.run.proofs.Delivery.{deliveries-follow}
 use Rattle.run.proofs.Offer.{offer-follows}
-use Rattle.run.proofs.Memory.{image, view, plan-is, image-again, count-is, clock-is, number}
+use Rattle.run.proofs.Memory.{image, view, plan-is, image-again, number}
 
-module _ (p : Plan) (b : Book) (k : Kept p b) (words : List ℕ) where
+module _ (p : Plan) (b : Book) (k : Kept p b) (tail : List ℕ) where
   abbrev w : List ℕ
-  w = image p b words
+  w = image p b tail
+
+  -- both sides give an offer and a step the same number
+  offer-number : (f : ℕ) → let s = bookState p b in offerNumber (s .plan) f ((tallyAt s f) .waiting) ≡ refusal p b (BookCalls.offer f)
+  unfolding bookState refusal offerNumber
+  offer-number f =
+      elim (test (leb (length (p .flows)) f)) [ inl out ↦ rw out | inr in-plan ↦ rw (tally-at p b f (leb-false _ _ in-plan)) ]
+
+  step-number : (room : ℕ) → let s = bookState p b in stepNumber (s .plan) room (s .clock) ≡ refusal p b (BookCalls.step room)
+  unfolding bookState refusal
+  step-number room = refl
+
+  below : (f : ℕ) → refusal p b (BookCalls.offer f) ≡ 0 → f < length (p .flows)
+  unfolding refusal offerNumber
+  below f e = leb-false _ _ (passed (leb (length (p .flows)) f) 11 (cond (leb mostWaiting (waitingOf b f)) 13 0) e .0)
+
+  -- and by that number do the same
+  offer-by : (f n : ℕ) → refusal p b (BookCalls.offer f) ≡ n → let now : Fed = judged p b (BookCalls.offer f) n in
+      unless n w (outcome (Done 0) (over (stateWords (offerState (bookState p b) f)) w)) ≡ outcome (now .reply) (image p (now .book) tail)
+  unfolding unless
+  offer-by f zero e = rw (offer-follows p b f (below f e), image-again p b tail)
+  offer-by f (suc n) e = refl
+
+  step-by : (delivery : List ℕ) (n : ℕ) → let s = bookState p b in let now : Fed = judged p b (BookCalls.step (length delivery)) n in
+      unless n (lent w delivery)
+      (outcome (Done (length (deliveries s))) (lent (over (stateWords (stepState s)) w) (over (wordsOf (deliveries s)) delivery)))
+      ≡ outcome (now .reply) (lent (image p (now .book) tail) (over (wordsOf (now .delivered)) delivery))
+  unfolding unless
+  step-by delivery zero = rw (step-follows p b k, deliveries-follow p b k, image-again p b tail)
+  step-by delivery (suc n) = refl
 
   pub offer-on : (f : ℕ) → let now : Fed = feed p b (BookCalls.offer f) in
-      offerOn w f ≡ outcome (now .reply) (image p (now .book) words)
-  unfolding offerOn unless offerNumber feed refusal
-  offer-on f =
-      rw (number p b words k, count-is p b words, view p b words)
-      (elim (test (leb (length (p .flows)) f)) [
-        | inl out ↦ rw out
-        | inr in-plan ↦
-            let below = leb-false (length (p .flows)) f in-plan in
-            rw (tally-at p b f below)
-            (elim (test (leb mostWaiting (waitingOf b f))) [
-              | inl full ↦ rw (in-plan, full)
-              | inr room ↦ rw (in-plan, room, offer-follows p b f below, image-again p b words)
-            ])
-      ])
+      offerOn w f ≡ outcome (now .reply) (image p (now .book) tail)
+  unfolding offerOn unless feed
+  offer-on f = rw (number p b tail k, view p b tail, offer-number f) (offer-by f (refusal p b (BookCalls.offer f)) refl)
 
   pub step-on : (delivery : List ℕ) → let now : Fed = feed p b (BookCalls.step (length delivery)) in
-      stepOn w delivery ≡ outcome (now .reply) (lent (image p (now .book) words) (over (wordsOf (now .delivered)) delivery))
-  unfolding stepOn unless stepNumber feed refusal
+      stepOn w delivery ≡ outcome (now .reply) (lent (image p (now .book) tail) (over (wordsOf (now .delivered)) delivery))
+  unfolding stepOn unless feed
   step-on delivery =
-      rw (number p b words k, clock-is p b words, plan-is p b words, view p b words)
-      (elim (test (ltb (length delivery) (roomFor p))) [
-        | inl little ↦ rw little
-        | inr room ↦ elim (test (eqb (b .clock) lastClock)) [
-          | inl last ↦ rw (room, last)
-          | inr early ↦ rw (room, early, step-follows p b k, delivers-follow p b k, count-follows p b k, image-again p b words)
-        ]
-      ])
+      rw (number p b tail k, view p b tail, step-number (length delivery)) (step-by delivery (refusal p b (BookCalls.step (length delivery))))
 
   pub write-on : (notes target : List ℕ) → writeOn w notes target ≡ bytesOn (planBytes notes p) target
   unfolding writeOn unless
-  write-on notes target = rw (number p b words k, plan-is p b words)
+  write-on notes target = rw (number p b tail k, plan-is p b tail)
 
 -- a call lent too little of the state memory
 module _ (words : List ℕ) (few : stateNumber words ≡ 8) where

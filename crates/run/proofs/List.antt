@@ -1,183 +1,206 @@
 -- The theorem on whole lists: every answer, every word delivered and every word of the state are the packet book's, and the
 -- book keeps its promises. Rests on Calls, Reset and the book's promises.
-use mathlib.Core.List.{List, [], _∷_, _++_}
+use mathlib.Core.Bool.{true, false, cond}
+use mathlib.Core.List.{List, [], _∷_, _++_, append-nil, append-assoc}
 use mathlib.Core.Logic.{inl, inr}
 use mathlib.Core.Path.{_≡_, refl, sym, ap, subst, _∙_}
-use Prim.Native.Nat.{ℕ, _*_, _≤_}
+use Prim.Native.Nat.{ℕ, zero, suc, _-_, _*_, _≤_, _<_}
 use native.Mathlib.Omega.{arith}
-use lib.Dec.{leb}
+use borrow.Author.Tests.{ltb-true, ltb-false}
+use lib.Dec.{ltb}
 use lib.ListN.{length, take, drop, take-append-drop}
 use lib.Seq.{take-at}
 use Rattle.laws.proofs.Cases.{test}
 use Rattle.flow.specs.Plan.{Plan}
+use Rattle.plan.specs.declared.Answer.{Answer}
 use Rattle.plan.specs.declared.Answer.the-variants.{Refused}
 use Rattle.plan.specs.Layout.{planOf}
 use Rattle.plan.proofs.Ranges.{plan-ok}
-use Rattle.book.specs.Book.{Book, start, waitingOf}
-use Rattle.book.specs.Cycle.{Delivery, deliveries, wordsOf}
-use Rattle.flow.specs.Limits.{mostWaiting}
-use Rattle.book.specs.Calls.{Fed, feed, refusal, runFrom}
+use Rattle.book.specs.Book.{Book, start}
+use Rattle.router.specs.Delivery.{Delivery, wordsOf}
+use Rattle.router.proofs.Delivery.{words-append, words-length}
+use Rattle.book.specs.Cycle.{deliveries}
+use Rattle.book.specs.Calls.{Call, Fed, refusal, judged, feed, Run, runFrom, run}
 use Rattle.book.specs.Calls as BookCalls
 use Rattle.book.proofs.Kept.{Kept, feed-cases, kept-start, kept-feed, kept-run}
 use Rattle.book.proofs.Promises.{promises}
+use Rattle.state.specs.State.{resetState}
 use Rattle.state.specs.Words.{stateWords}
 use Rattle.state.specs.Forms.{stateNumber}
-use Rattle.state.specs.Outcome.{Outcome, outcome, over}
+use Rattle.state.specs.Outcome.{Outcome, outcome, Lent, lent, over}
 use Rattle.state.specs.Calls.{planSize, resetOn}
+use Rattle.state.proofs.Words.{length-words}
 use Rattle.reset.proofs.Accepted.{accepted, leaves}
-use Rattle.cycle.specs.Calls.{StepOutcome}
-use Rattle.run.specs.List.{Call, offer, step, write, reset, Entry, whole, first, result, after, MayCome, IsList, memoryAfter, outcomes, wordCount, deliveredBy, deliveredWords, fed, answerOf, written, tooLittle, expected, bookRun, EveryList}
-use Rattle.run.proofs.Delivery.{words-append}
+use Rattle.run.specs.List.{Asked, offer, step, write, reset, onWords, Item, onMemory, memoryAfter, Role, feeds, resets, role, tooLittle, roleIn, MayCome, IsList, fedAs, fed, beside, outcomes, bookMemory, due, expected, wordCount, deliveredBy, deliveredWords, EveryList}
+use Rattle.run.specs.View.{bookState}
 use Rattle.run.proofs.Offer.{start-follows}
-use Rattle.run.proofs.Memory.{image, number, short}
+use Rattle.run.proofs.Memory.{image, image-part, image-rest, number, short}
 use Rattle.run.proofs.Calls.{offer-on, step-on, write-on, short-offer, short-step, short-write}
 use Rattle.run.proofs.Reset.{reset-refused}
 
--- five words for each delivery
-words-length : (ds : List Delivery) → length (wordsOf ds) ≡ 5 * length ds
-words-length [] = refl
-words-length (d ∷ ds) = omega (arith, words-length ds)
+-- the words that a fed call's answer counts are those that the book delivers
+fed-words : (p : Plan) (b : Book) (c : Call) (other : List ℕ) → let now : Fed = feed p b c in
+    take (wordCount (now .reply)) (over (wordsOf (now .delivered)) other) ≡ wordsOf (now .delivered)
+fed-words p b c other =
+    feed-cases p b
+    (λ (now : Fed). take (wordCount (now .reply)) (over (wordsOf (now .delivered)) other) ≡ wordsOf (now .delivered))
+    (λ n. refl) (λ f below room. refl)
+    (λ room early. take-at (wordsOf (deliveries p b)) _ (5 * length (deliveries p b)) (words-length (deliveries p b)))
+    c
 
 -- an offer delivers nothing
 offer-silent : (p : Plan) (b : Book) (f : ℕ) → feed p b (BookCalls.offer f) .delivered ≡ []
-unfolding feed refusal
-offer-silent p b f =
-    elim (test (leb (length (p .flows)) f)) [
-      | inl out ↦ rw out
-      | inr in-plan ↦ elim (test (leb mostWaiting (waitingOf b f))) [ inl full ↦ rw (in-plan, full) | inr room ↦ rw (in-plan, room) ]
-    ]
+unfolding feed
+offer-silent p b f = by-number (refusal p b (BookCalls.offer f))
+  where
+    by-number : (n : ℕ) → judged p b (BookCalls.offer f) n .delivered ≡ []
+    by-number zero = refl
+    by-number (suc n) = refl
 
--- the words that a step's answer counts are the book's
-step-words : (p : Plan) (b : Book) (delivery : List ℕ) → let now : Fed = feed p b (BookCalls.step (length delivery)) in
-    take (wordCount (answerOf (now .reply))) (over (wordsOf (now .delivered)) delivery) ≡ wordsOf (now .delivered)
-step-words p b delivery =
-    feed-cases p b (λ (now : Fed). take (wordCount (answerOf (now .reply))) (over (wordsOf (now .delivered)) delivery) ≡ wordsOf (now .delivered))
-    (λ n. refl) (λ f below room. refl)
-    (λ room early. take-at (wordsOf (deliveries p b)) (drop (length (wordsOf (deliveries p b))) delivery) (5 * length (deliveries p b)) (words-length (deliveries p b)))
-    (BookCalls.step (length delivery))
+-- two lists fed one after the other
+run-then : (p : Plan) (b : Book) (cs ds : List Call) → let first : Run = runFrom p b cs in let rest : Run = runFrom p (first .book) ds in
+    (runFrom p b (cs ++ ds) .book ≡ rest .book) × (runFrom p b (cs ++ ds) .delivered ≡ first .delivered ++ rest .delivered)
+run-then p b [] ds = (refl, refl)
+run-then p b (c ∷ cs) ds =
+    let later = run-then p (feed p b c .book) cs ds in
+    let now : Fed = feed p b c in
+    (later .0, ap (λ rest. now .delivered ++ rest) (later .1) ∙ sym (append-assoc (now .delivered) (runFrom p (now .book) cs .delivered) _))
+
+abbrev item : Asked → ℕ → Item
+item c n = record { asked = c; words = n }
 
 module _ (p : Plan) (words : List ℕ) where
-  -- one call from the words of book b: it leaves those of b′, with this outcome and these deliveries
-  record Does (b : Book) (e : Entry) (b′ : Book) (o : Outcome) (ds : List Delivery) : Type 0 where
-    answered : outcome ((result (image p b words) e) .answer) ((result (image p b words) e) .other) ≡ o
-    state : after (image p b words) e ≡ image p b′ words
-    delivered : deliveredBy e (result (image p b words) e) ≡ wordsOf ds
+  abbrev tail : List ℕ
+  tail = drop (planSize p) words
+
+  -- a call that leaves the words lent to it as they were
+  unchanged : (memory : List ℕ) (c : Asked) (n : ℕ) (a : Answer) (other : List ℕ) → onWords c (take n memory) ≡ outcome a (lent (take n memory) other)
+      → onMemory memory (item c n) ≡ outcome a (lent memory other)
+  unchanged memory c n a other e =
+      ap (λ (o : Outcome Answer Lent). outcome (o .answer) (lent (o .memory .state ++ drop n memory) (o .memory .other))) e
+      ∙ ap (λ m. outcome a (lent m other)) (take-append-drop n memory)
+
+  -- a call lent the whole state, and words behind it or not
+  enough : (b b′ : Book) (c : Asked) (n : ℕ) (a : Answer) (other : List ℕ) → planSize p ≤ n
+      → ((tail : List ℕ) → onWords c (image p b tail) ≡ outcome a (lent (image p b′ tail) other))
+      → onMemory (image p b tail) (item c n) ≡ outcome a (lent (image p b′ tail) other)
+  enough b b′ c n a other h does =
+      let part = take (n - planSize p) tail in
+      let rest = drop (n - planSize p) tail in
+      (λ i. let o : Outcome Answer Lent = onWords c (image-part p b tail n h i) in
+      outcome (o .answer) (lent (o .memory .state ++ image-rest p b tail n h i) (o .memory .other)))
+      ∙ ap (λ (o : Outcome Answer Lent). outcome (o .answer) (lent (o .memory .state ++ rest) (o .memory .other))) (does part)
+      ∙ ap (λ m. outcome a (lent m other)) (append-assoc (stateWords (bookState p b′)) part rest ∙ ap (λ t. image p b′ t) (take-append-drop (n - planSize p) tail))
+
+  -- one call from the words of book b, in role r: it leaves what is due, and the words of the book that it is fed to
+  record Does (b : Book) (i : Item) (r : Role) : Type 0 where
+    does : let o : Outcome Answer (List ℕ) = due p b words i r in
+        onMemory (image p b tail) i ≡ outcome (o .answer) (lent (image p (runFrom p b (fedAs r) .book) tail) (o .memory))
+    delivered : deliveredBy (role (i .asked)) (due p b words i r) ≡ wordsOf (runFrom p b (fedAs r) .delivered)
+    kept : Kept p (runFrom p b (fedAs r) .book)
+
+  module _ (b : Book) (k : Kept p b) (n : ℕ) where
+    does-reset : (file : List ℕ) → MayCome resets ((onMemory (image p b tail) (item (reset file) n)) .answer) → Does b (item (reset file) n) resets
+    does-reset file refusal =
+        let part = take n (image p b tail) in
+        let a = (resetOn file part) .answer in
+        record {
+          does = unchanged (image p b tail) (reset file) n a [] (ap (λ m. outcome a (lent m [])) (reset-refused file part refusal));
+          delivered = refl;
+          kept = k;
+        }
+
+    -- a fed call
+    does-fed : (c : Asked) (call : Call) (other : List ℕ) → role c ≡ feeds call other → planSize p ≤ n
+        → ((tail : List ℕ) → let now : Fed = feed p b call in
+        onWords c (image p b tail) ≡ outcome (now .reply) (lent (image p (now .book) tail) (over (wordsOf (now .delivered)) other)))
+        → Does b (item c n) (feeds call other)
+    does-fed c call other r h does =
+        record {
+          does = enough b (feed p b call .book) c n _ _ h does;
+          delivered =
+              ap (λ r. deliveredBy r (due p b words (item c n) (feeds call other))) r
+              ∙ fed-words p b call other ∙ ap wordsOf (sym (append-nil (feed p b call .delivered)));
+          kept = kept-feed p b k call;
+        }
+
+    does-enough : (c : Asked) → planSize p ≤ n → MayCome (role c) ((onMemory (image p b tail) (item c n)) .answer) → Does b (item c n) (role c)
+    does-enough (offer f) h may =
+        does-fed (offer f) (BookCalls.offer f) [] refl h
+        (λ t. let now : Fed = feed p b (BookCalls.offer f) in
+        ap (λ (o : Outcome Answer (List ℕ)). outcome (o .answer) (lent (o .memory) [])) (offer-on p b k t f)
+        ∙ ap (λ ds. outcome (now .reply) (lent (image p (now .book) t) (over (wordsOf ds) []))) (sym (offer-silent p b f)))
+    does-enough (step delivery) h may =
+        does-fed (step delivery) (BookCalls.step (length delivery)) delivery refl h (λ t. step-on p b k t delivery)
+    does-enough (write notes target) h may =
+        record {
+          does =
+              enough b b (write notes target) n _ _ h
+              (λ t. ap (λ (o : Outcome Answer (List ℕ)). outcome (o .answer) (lent (image p b t) (o .memory))) (write-on p b k t notes target));
+          delivered = refl;
+          kept = k;
+        }
+    does-enough (reset file) h may = does-reset file may
+
+    -- a call lent too little
+    does-little : (c : Asked) → n < planSize p → MayCome (role c) ((onMemory (image p b tail) (item c n)) .answer) → Does b (item c n) (tooLittle (role c))
+    does-little (offer f) few may =
+        let part = take n (image p b tail) in
+        let e = ap (λ (o : Outcome Answer (List ℕ)). outcome (o .answer) (lent (o .memory) [])) (short-offer part (short p b tail k n few) f) in
+        record { does = unchanged (image p b tail) (offer f) n _ _ e; delivered = refl; kept = k }
+    does-little (step delivery) few may =
+        let e = short-step (take n (image p b tail)) (short p b tail k n few) delivery in
+        record { does = unchanged (image p b tail) (step delivery) n _ _ e; delivered = refl; kept = k }
+    does-little (write notes target) few may =
+        let part = take n (image p b tail) in
+        let e = ap (λ (o : Outcome Answer (List ℕ)). outcome (o .answer) (lent part (o .memory))) (short-write part (short p b tail k n few) notes target) in
+        record { does = unchanged (image p b tail) (write notes target) n _ _ e; delivered = refl; kept = k }
+    does-little (reset file) few may = does-reset file may
+
+    does-item : (c : Asked) → MayCome (role c) ((onMemory (image p b tail) (item c n)) .answer) → Does b (item c n) (roleIn p (item c n))
+    does-item c may =
+        elim (test (ltb n (planSize p))) [
+          | inl few ↦ rw few (does-little c (ltb-true n (planSize p) few) may)
+          | inr all ↦ rw all (does-enough c (ltb-false n (planSize p) all) may)
+        ]
 
   -- what a list comes to from the words of a book
-  record Goes (b : Book) (es : List Entry) : Type 0 where
-    answered : outcomes (image p b words) es ≡ expected p b es
-    delivered : deliveredWords (image p b words) es ≡ wordsOf (runFrom p b (fed es) .delivered)
-    state : memoryAfter (image p b words) es ≡ image p (runFrom p b (fed es) .book) words
+  record Goes (b : Book) (is : List Item) : Type 0 where
+    answered : outcomes (image p b tail) is ≡ expected p b words is
+    delivered : deliveredWords (image p b tail) is ≡ wordsOf (runFrom p b (fed p is) .delivered)
+    state : memoryAfter (image p b tail) is ≡ image p (runFrom p b (fed p is) .book) tail
 
-  -- a call, then the rest of the list
-  then : {b b′ : Book} {e : Entry} {o : Outcome} {ds : List Delivery} → Does b e b′ o ds → (es : List Entry)
-      → expected p b (e ∷ es) ≡ o ∷ expected p b′ es
-      → runFrom p b (fed (e ∷ es)) .delivered ≡ ds ++ runFrom p b′ (fed es) .delivered
-      → runFrom p b (fed (e ∷ es)) .book ≡ runFrom p b′ (fed es) .book
-      → Goes b′ es → Goes b (e ∷ es)
-  then {b} {b′} {e} {o} {ds} d es outs dels book later =
+  follow : (is : List Item) (b : Book) → Kept p b → IsList (image p b tail) is → Goes b is
+  follow [] b k l = record { answered = refl; delivered = refl; state = refl }
+  follow (i ∷ is) b k l =
+      let r = roleIn p i in
+      let d = does-item b k (i .words) (i .asked) (l .0) in
+      let left = ap (λ (o : Outcome Answer Lent). o .memory .state) (d .does) in
+      let told = ap beside (d .does) in
+      let later = follow is (runFrom p b (fedAs r) .book) (d .kept) (subst (λ m. IsList m is) left (l .1)) in
+      let runs = run-then p b (fedAs r) (fed p is) in
       record {
-        answered = (λ i. d .answered i ∷ outcomes (d .state i) es) ∙ ap (λ rest. o ∷ rest) (later .answered) ∙ sym outs;
+        answered = (λ j. told j ∷ outcomes (left j) is) ∙ ap (λ rest. due p b words i r ∷ rest) (later .answered);
         delivered =
-            (λ i. d .delivered i ++ deliveredWords (d .state i) es) ∙ ap (λ rest. wordsOf ds ++ rest) (later .delivered)
-            ∙ sym (ap wordsOf dels ∙ words-append ds (runFrom p b′ (fed es) .delivered));
-        state = ap (λ m. memoryAfter m es) (d .state) ∙ later .state ∙ ap (λ c. image p c words) (sym book);
+            (λ j. deliveredBy (role (i .asked)) (told j) ++ deliveredWords (left j) is) ∙ (λ j. d .delivered j ++ later .delivered j)
+            ∙ sym (ap wordsOf (runs .1) ∙ words-append (runFrom p b (fedAs r) .delivered) _);
+        state = ap (λ m. memoryAfter m is) left ∙ later .state ∙ ap (λ c. image p c tail) (sym (runs .0));
       }
-
-  module _ (long : planSize p ≤ length words) (b : Book) (k : Kept p b) where
-    does-offer : (f : ℕ) → let now : Fed = feed p b (BookCalls.offer f) in
-        Does b (whole (offer f)) (now .book) (outcome (answerOf (now .reply)) []) (now .delivered)
-    does-offer f =
-        let e = offer-on p b k words f in
-        record {
-          answered = ap (λ (r : Outcome). outcome (r .answer) []) e;
-          state = ap (λ (r : Outcome). r .memory) e;
-          delivered = ap wordsOf (sym (offer-silent p b f));
-        }
-
-    does-step : (delivery : List ℕ) → let now : Fed = feed p b (BookCalls.step (length delivery)) in
-        Does b (whole (step delivery)) (now .book) (outcome (answerOf (now .reply)) (over (wordsOf (now .delivered)) delivery)) (now .delivered)
-    does-step delivery =
-        let e = step-on p b k words delivery in
-        record {
-          answered = ap (λ (r : StepOutcome). outcome (r .answer) (r .delivery)) e;
-          state = ap (λ (r : StepOutcome). r .memory) e;
-          delivered = ap (λ (r : StepOutcome). take (wordCount (r .answer)) (r .delivery)) e ∙ step-words p b delivery;
-        }
-
-    does-write : (notes target : List ℕ) → Does b (whole (write notes target)) b (written p notes target) []
-    does-write notes target = record { answered = write-on p b k words notes target; state = refl; delivered = refl }
-
-    does-reset : (file : List ℕ) (number place : ℕ) → (resetOn file (image p b words)) .answer ≡ Refused number place
-        → Does b (whole (reset file number place)) b (outcome (Refused number place) []) []
-    does-reset file number place e =
-        record { answered = λ i. outcome (e i) []; state = reset-refused file (image p b words) number place e; delivered = refl }
-
-    -- lent the first words only
-    does-little : (room : ℕ) (c : Call) → MayCome p (image p b words) (first room c) → Does b (first room c) b (tooLittle c) []
-    does-little room (offer f) few =
-        let e = short-offer (take room (image p b words)) (short p b words k long room few) f in
-        record {
-          answered = ap (λ (r : Outcome). outcome (r .answer) []) e;
-          state = ap (λ (r : Outcome). r .memory ++ drop room (image p b words)) e ∙ take-append-drop room (image p b words);
-          delivered = refl;
-        }
-    does-little room (step delivery) few =
-        let e = short-step (take room (image p b words)) (short p b words k long room few) delivery in
-        record {
-          answered = ap (λ (r : StepOutcome). outcome (r .answer) (r .delivery)) e;
-          state = ap (λ (r : StepOutcome). r .memory ++ drop room (image p b words)) e ∙ take-append-drop room (image p b words);
-          delivered = refl;
-        }
-    does-little room (write notes target) few =
-        record {
-          answered = short-write (take room (image p b words)) (short p b words k long room few) notes target;
-          state = take-append-drop room (image p b words);
-          delivered = refl;
-        }
-    does-little room (reset file number place) e =
-        record {
-          answered = λ i. outcome (e i) [];
-          state =
-              ap (λ m. m ++ drop room (image p b words)) (reset-refused file (take room (image p b words)) number place e)
-              ∙ take-append-drop room (image p b words);
-          delivered = refl;
-        }
-
-  module _ (long : planSize p ≤ length words) where
-    -- the rest of the list, from the words that the call left
-    rest : {b b′ : Book} {e : Entry} {o : Outcome} {ds : List Delivery} → Does b e b′ o ds → (es : List Entry)
-        → IsList p (image p b words) (e ∷ es) → IsList p (image p b′ words) es
-    rest d es l = subst (λ m. IsList p m es) (d .state) (l .1)
-
-    follow : (es : List Entry) (b : Book) → Kept p b → IsList p (image p b words) es → Goes b es
-    follow [] b k l = record { answered = refl; delivered = refl; state = refl }
-    follow (whole (offer f) ∷ es) b k l =
-        let d = does-offer long b k f in
-        then d es refl refl refl (follow es (feed p b (BookCalls.offer f) .book) (kept-feed p b k (BookCalls.offer f)) (rest d es l))
-    follow (whole (step delivery) ∷ es) b k l =
-        let c = BookCalls.step (length delivery) in
-        let d = does-step long b k delivery in
-        then d es refl refl refl (follow es (feed p b c .book) (kept-feed p b k c) (rest d es l))
-    follow (whole (write notes target) ∷ es) b k l =
-        let d = does-write long b k notes target in then d es refl refl refl (follow es b k (rest d es l))
-    follow (whole (reset file number place) ∷ es) b k l =
-        let d = does-reset long b k file number place (l .0) in then d es refl refl refl (follow es b k (rest d es l))
-    follow (first room c ∷ es) b k l =
-        let d = does-little long b k room c (l .0) in then d es refl refl refl (follow es b k (rest d es l))
 
 -- for every plan file that reset accepts, every state memory of at least its size and every list of calls
 pub every-list : EveryList
-every-list file words bytes done es l =
+every-list file words bytes done is l =
     let a = accepted file words done in
     let p = planOf file in
     let ok = plan-ok file (a .value) (a .file-done) bytes in
-    let begun : (resetOn file words) .memory ≡ image p (start p) words = leaves file words bytes done ∙ ap (λ s. over (stateWords s) words) (sym (start-follows p)) in
-    let g = follow p words (a .long) es (start p) (kept-start p ok) (subst (λ m. IsList p m es) begun l) in
+    let begun : (resetOn file words) .memory ≡ bookMemory p (start p) words =
+    leaves file words bytes done ∙ (λ i. stateWords (sym (start-follows p) i) ++ drop (length-words (resetState p) i) words) in
+    let g = follow p words is (start p) (kept-start p ok) (subst (λ m. IsList m is) begun l) in
+    let state = ap (λ m. memoryAfter m is) begun ∙ g .state in
     record {
-      answered = ap (λ m. outcomes m es) begun ∙ g .answered;
-      delivered = ap (λ m. deliveredWords m es) begun ∙ g .delivered;
-      state = ap (λ m. memoryAfter m es) begun ∙ g .state;
-      formed = ap stateNumber (ap (λ m. memoryAfter m es) begun ∙ g .state) ∙ number p (bookRun p es .book) words (kept-run p ok (fed es));
-      promised = promises p ok (fed es);
+      answered = ap (λ m. outcomes m is) begun ∙ g .answered;
+      delivered = ap (λ m. deliveredWords m is) begun ∙ g .delivered;
+      state = state;
+      formed = ap stateNumber state ∙ number p (run p (fed p is) .book) (drop (planSize p) words) (kept-run p ok (fed p is));
+      promised = promises p ok (fed p is);
     }

@@ -2,13 +2,13 @@
 use mathlib.Core.Bool.{true, not}
 use mathlib.Core.List.{List, _++_}
 use mathlib.Core.Path.{_≡_, sym, ap, _∙_}
-use Prim.Native.Nat.{ℕ, _≤_, _<_}
+use Prim.Native.Nat.{ℕ, _+_, _-_, _≤_, _<_}
 use native.Mathlib.Decide.{decLt}
 use native.Mathlib.Omega.{arith}
 use borrow.Author.Tests.{lt-ltb, le-ltb, not-false}
 use lib.Dec.{ltb}
-use lib.ListN.{length, take, drop}
-use lib.Seq.{drop-at, getD-take, length-take-le}
+use lib.ListN.{length, take, drop, length-append}
+use lib.Seq.{drop-at, take-append-add, drop-append-add, getD-take, length-take-le}
 use Rattle.laws.specs.Bounded.{allBelow}
 use Rattle.laws.proofs.Cases.{passed}
 use Rattle.laws.proofs.Bounded.{length-tabulate}
@@ -19,20 +19,19 @@ use Rattle.book.specs.Book.{Book}
 use Rattle.book.proofs.Kept.{Kept}
 use Rattle.state.specs.Layout.{headerSize}
 use Rattle.state.specs.Words.{stateWords}
-use Rattle.state.specs.Read.{countIn, clockIn, planIn, stateOf}
+use Rattle.state.specs.Read.{planIn, stateOf}
 use Rattle.state.specs.Forms.{headerFits, sizeIn, stateNumber}
 use Rattle.state.specs.Outcome.{over}
 use Rattle.state.specs.Calls.{planSize}
 use Rattle.state.proofs.Words.{length-words}
-use Rattle.state.proofs.Read.{Sized, sx-read, sy-read, count-read, clock-read, plan-read, read-back}
+use Rattle.state.proofs.Read.{Sized, sx-read, sy-read, count-read, plan-read, read-back}
 use Rattle.state.proofs.Formed.{words-form}
-use Rattle.state.proofs.Over.{over-length}
 use Rattle.run.specs.View.{cellOf, tallyOf, bookState}
 use Rattle.run.proofs.Forms.{book-ok}
 
--- the lent words with the book's state in front
-abbrev pub image : Plan → Book → (words : List ℕ) → List ℕ
-image p b words = over (stateWords (bookState p b)) words
+-- the words of a book's state, and others behind them
+abbrev pub image : Plan → Book → (tail : List ℕ) → List ℕ
+image p b tail = stateWords (bookState p b) ++ tail
 
 -- the first eight words of a part
 header-part : (w : List ℕ) (room : ℕ) → headerSize ≤ room → headerFits (take room w) ≡ headerFits w
@@ -66,54 +65,58 @@ module _ (p : Plan) (b : Book) where
   unfolding bookState
   sized = record { tallies-all = length-tabulate (length (p .flows)) (tallyOf b); cells-all = length-grid (p .sx) (p .sy) (cellOf b) }
 
-  module _ (words : List ℕ) where
-    stands : Stands 0 (image p b words) 0 (stateWords (bookState p b))
-    stands = stands-first 0 (stateWords (bookState p b)) (drop (length (stateWords (bookState p b))) words)
+  module _ (tail : List ℕ) where
+    stands : Stands 0 (image p b tail) 0 (stateWords (bookState p b))
+    stands = stands-first 0 (stateWords (bookState p b)) tail
 
-    pub view : stateOf (image p b words) ≡ bookState p b
-    view = read-back (bookState p b) (drop (length (stateWords (bookState p b))) words) sized
+    pub view : stateOf (image p b tail) ≡ bookState p b
+    view = read-back (bookState p b) tail sized
 
-    pub plan-is : planIn (image p b words) ≡ p
+    pub plan-is : planIn (image p b tail) ≡ p
     unfolding bookState
-    plan-is = plan-read (bookState p b) (image p b words) stands
+    plan-is = plan-read (bookState p b) (image p b tail) stands
 
     -- another book's words take the place of these
-    pub image-again : (c : Book) → over (stateWords (bookState p c)) (image p b words) ≡ image p c words
-    image-again c =
-        let own = stateWords (bookState p b) in
-        let same : length own ≡ length (stateWords (bookState p c)) = length-state p b ∙ sym (length-state p c) in
-        ap (λ rest. stateWords (bookState p c) ++ rest) (drop-at own (drop (length own) words) _ same ∙ ap (λ n. drop n words) same)
+    pub image-again : (c : Book) → over (stateWords (bookState p c)) (image p b tail) ≡ image p c tail
+    image-again c = ap (λ rest. stateWords (bookState p c) ++ rest) (drop-at (stateWords (bookState p b)) tail _ (length-state p b ∙ sym (length-state p c)))
 
-    pub count-is : countIn (image p b words) ≡ length (p .flows)
-    unfolding bookState
-    count-is = count-read (bookState p b) (image p b words) stands
+    module _ (n : ℕ) (enough : planSize p ≤ n) where
+      split : n ≡ length (stateWords (bookState p b)) + (n - planSize p)
+      split = omega (arith, length-state p b)
 
-    pub clock-is : clockIn (image p b words) ≡ b .clock
-    unfolding bookState
-    clock-is = clock-read (bookState p b) (image p b words) stands
+      -- the whole state is among the first words
+      pub image-part : take n (image p b tail) ≡ image p b (take (n - planSize p) tail)
+      image-part = ap (λ m. take m (image p b tail)) split ∙ take-append-add (stateWords (bookState p b)) tail (n - planSize p)
 
-    size-is : sizeIn (image p b words) ≡ planSize p
+      pub image-rest : drop n (image p b tail) ≡ drop (n - planSize p) tail
+      image-rest = ap (λ m. drop m (image p b tail)) split ∙ drop-append-add (stateWords (bookState p b)) tail (n - planSize p)
+
+    size-is : sizeIn (image p b tail) ≡ planSize p
     unfolding bookState
-    size-is = rw (count-is, sx-read (bookState p b) (image p b words) stands, sy-read (bookState p b) (image p b words) stands)
+    size-is =
+        rw (
+          count-read (bookState p b) (image p b tail) stands,
+          sx-read (bookState p b) (image p b tail) stands,
+          sy-read (bookState p b) (image p b tail) stands,
+        )
 
     module _ (k : Kept p b) where
-      pub number : stateNumber (image p b words) ≡ 0
-      number = words-form (bookState p b) (book-ok p b k) (image p b words) stands
+      pub number : stateNumber (image p b tail) ≡ 0
+      number = words-form (bookState p b) (book-ok p b k) (image p b tail) stands
 
       -- lent too little of it: 8
-      pub short : planSize p ≤ length words → (room : ℕ) → room < planSize p → stateNumber (take room (image p b words)) ≡ 8
+      pub short : (n : ℕ) → n < planSize p → stateNumber (take n (image p b tail)) ≡ 8
       unfolding stateNumber
-      short long room few =
-          let w = image p b words in
-          let all = over-length (stateWords (bookState p b)) words (omega (arith, length-state p b)) in
-          let part = length-take-le room w (omega arith) in
-          elim (decLt room headerSize) [
-            | yes l ↦ rw (lt-ltb (length (take room w)) headerSize (omega arith))
+      short n few =
+          let w = image p b tail in
+          let part = length-take-le n w (omega (arith, length-state p b, length-append (stateWords (bookState p b)) tail)) in
+          elim (decLt n headerSize) [
+            | yes l ↦ rw (lt-ltb (length (take n w)) headerSize (omega arith))
             | no l ↦
                 rw (
-                  le-ltb (length (take room w)) headerSize (omega arith),
-                  header-part w room (omega arith) ∙ header-formed w number,
-                  size-part w room (omega arith) ∙ size-is,
-                  lt-ltb (length (take room w)) (planSize p) (omega arith),
+                  le-ltb (length (take n w)) headerSize (omega arith),
+                  header-part w n (omega arith) ∙ header-formed w number,
+                  size-part w n (omega arith) ∙ size-is,
+                  lt-ltb (length (take n w)) (planSize p) (omega arith),
                 )
           ]

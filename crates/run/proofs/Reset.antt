@@ -1,8 +1,7 @@
 -- A refused reset leaves the words lent to it as they were. Rests on the definition of reset.
-use mathlib.Core.Bool.{Bool, true, false, false≢true}
 use mathlib.Core.List.{List}
 use mathlib.Core.Logic.{inl, inr}
-use mathlib.Core.Path.{_≡_, refl, sym, ap}
+use mathlib.Core.Path.{_≡_, refl}
 use Prim.Native.Nat.{ℕ}
 use lib.Dec.{ltb}
 use lib.ListN.{length}
@@ -13,23 +12,17 @@ use Rattle.plan.specs.Layout.{planOf}
 use Rattle.plan.specs.Refusals.{planAnswer}
 use Rattle.state.specs.Outcome.{unlessRefused}
 use Rattle.state.specs.Calls.{planSize, resetOn}
-
-abbrev isDone : Answer → Bool
-isDone (Done value) = true
-isDone (Refused number place) = false
+use Rattle.run.specs.List.{MayCome, resets}
 
 module _ (file words : List ℕ) where
-  abbrev few : Bool
-  few = ltb (length words) (planSize (planOf file))
-
-  pub reset-refused : (number place : ℕ) → (resetOn file words) .answer ≡ Refused number place → (resetOn file words) .memory ≡ words
+  pub reset-refused : MayCome resets ((resetOn file words) .answer) → (resetOn file words) .memory ≡ words
   unfolding resetOn unlessRefused
-  reset-refused number place e = by-plan (planAnswer file) refl
+  reset-refused e = by-plan (planAnswer file) refl
     where
       by-plan : (a : Answer) → planAnswer file ≡ a → (resetOn file words) .memory ≡ words
       by-plan (Refused n q) p = rw p
       by-plan (Done value) p =
-          elim (test few) [
+          elim (test (ltb (length words) (planSize (planOf file)))) [
             | inl short ↦ rw (p, short)
-            | inr long ↦ absurd (false≢true (sym (ap isDone (rw (p, long) at e))))
+            | inr long ↦ absurd (rw (p, long) at e)
           ]

@@ -1,17 +1,21 @@
 -- A whole list of calls on one state, after an accepted reset, and what it comes to: every answer, every word delivered and
 -- every word of the state are the packet book's (01, The packet book).
+-- A later request's call is one case more of `Asked`, `onWords` and `role`; all else is said of any call.
+use mathlib.Core.Bool.{cond}
 use mathlib.Core.List.{List, [], _∷_, _++_}
 use mathlib.Core.Path.{_≡_}
 use Prim.Native.Nat.{ℕ, _*_, _<_}
+use lib.Dec.{ltb}
 use lib.ListN.{length, getD, take, drop}
 use Rattle.flow.specs.Plan.{Plan}
+use Rattle.flow.specs.Limits.{exitSize}
 use Rattle.plan.specs.declared.Answer.{Answer}
 use Rattle.plan.specs.declared.Answer.the-variants.{Done, Refused}
 use Rattle.plan.specs.Layout.{planOf}
 use Rattle.plan.specs.Written.{planBytes}
 use Rattle.book.specs.Book.{Book, start}
-use Rattle.book.specs.Cycle.{wordsOf}
-use Rattle.book.specs.Calls.{Fed, feed, Run, run}
+use Rattle.router.specs.Delivery.{wordsOf}
+use Rattle.book.specs.Calls.{Call, feed, runFrom, run}
 use Rattle.book.specs.Calls as BookCalls
 use Rattle.book.specs.Promises.{Promises}
 use Rattle.state.specs.Words.{stateWords}
@@ -21,131 +25,131 @@ use Rattle.state.specs.Calls.{planSize, resetOn, bytesOn, writeOn}
 use Rattle.cycle.specs.Calls.{offerOn, stepOn}
 use Rattle.run.specs.View.{bookState}
 
--- a call, with what is lent to it beside the state memory; a reset is one that is refused with that number and place
-pub data Call : Type 0 where
-  offer : (flow : ℕ) → Call
-  step : (delivery : List ℕ) → Call
-  write : (notes target : List ℕ) → Call
-  reset : (file : List ℕ) (number place : ℕ) → Call
-
--- a call lent the state memory whole, or its first words only
-pub data Entry : Type 0 where
-  whole : Call → Entry
-  first : (room : ℕ) → Call → Entry
+-- a call, with what is lent to it beside the state memory
+pub data Asked : Type 0 where
+  offer : (flow : ℕ) → Asked
+  step : (delivery : List ℕ) → Asked
+  write : (notes target : List ℕ) → Asked
+  reset : (file : List ℕ) → Asked
 
 -- what a call does to the words lent to it, by the definitions to which the contracts of the code set answer and memory equal
-abbrev pub called : Call → (words : List ℕ) → Outcome Answer Lent
-called (offer flow) words =
-    let o : Outcome Answer (List ℕ) = offerOn words flow in
-    outcome (o .answer) (lent (o .memory) [])
-called (step delivery) words = stepOn words delivery
-called (write notes target) words =
-    let o : Outcome Answer (List ℕ) = writeOn words notes target in
-    outcome (o .answer) (lent words (o .memory))
-called (reset file number place) words =
-    let o : Outcome Answer (List ℕ) = resetOn file words in
-    outcome (o .answer) (lent (o .memory) [])
+abbrev pub onWords : Asked → (words : List ℕ) → Outcome Answer Lent
+onWords (offer flow) words = outcome ((offerOn words flow) .answer) (lent ((offerOn words flow) .memory) [])
+onWords (step delivery) words = stepOn words delivery
+onWords (write notes target) words = outcome ((writeOn words notes target) .answer) (lent words ((writeOn words notes target) .memory))
+onWords (reset file) words = outcome ((resetOn file words) .answer) (lent ((resetOn file words) .memory) [])
 
-abbrev pub result : (memory : List ℕ) → Entry → Outcome Answer Lent
-result memory (whole c) = called c memory
-result memory (first room c) = called c (take room memory)
+-- an item of a list: a call, and how many words of the state memory it is lent
+pub record Item : Type 0 where
+  pub asked : Asked
+  pub words : ℕ
 
--- the state memory after a call; what wasn't lent stays
-abbrev pub after : (memory : List ℕ) → Entry → List ℕ
-after memory (whole c) = (called c memory) .memory .state
-after memory (first room c) = (called c (take room memory)) .memory .state ++ drop room memory
+-- it is lent the first words of the state memory; the others stay
+abbrev pub onMemory : (memory : List ℕ) → Item → Outcome Answer Lent
+onMemory memory i =
+    let o : Outcome Answer Lent = onWords (i .asked) (take (i .words) memory) in
+    outcome (o .answer) (lent (o .memory .state ++ drop (i .words) memory) (o .memory .other))
 
--- what may come in a list: offers and steps, and unfed writing, refused resets and calls lent too little of the state memory
-abbrev pub MayCome : Plan → (memory : List ℕ) → Entry → Type 0
-MayCome p memory (whole (offer flow)) = Unit {0}
-MayCome p memory (whole (step delivery)) = Unit {0}
-MayCome p memory (whole (write notes target)) = Unit {0}
-MayCome p memory (whole (reset file number place)) = (resetOn file memory) .answer ≡ Refused number place
-MayCome p memory (first room (offer flow)) = room < planSize p
-MayCome p memory (first room (step delivery)) = room < planSize p
-MayCome p memory (first room (write notes target)) = room < planSize p
-MayCome p memory (first room (reset file number place)) = (resetOn file (take room memory)) .answer ≡ Refused number place
-
--- each call is lent the state memory as the last one left it
-abbrev pub IsList : Plan → (memory : List ℕ) → List Entry → Type 0
-IsList p memory [] = Unit {0}
-IsList p memory (e ∷ es) = MayCome p memory e × IsList p (after memory e) es
-
--- the state memory after a list
-abbrev pub memoryAfter : (memory : List ℕ) → List Entry → List ℕ
+-- the state memory after a list: each call is lent it as the last one left it
+abbrev pub memoryAfter : (memory : List ℕ) → List Item → List ℕ
 memoryAfter memory [] = memory
-memoryAfter memory (e ∷ es) = memoryAfter (after memory e) es
+memoryAfter memory (i ∷ is) = memoryAfter ((onMemory memory i) .memory .state) is
 
--- each call's answer, and what was lent to it beside the state memory, afterwards
-abbrev pub outcomes : (memory : List ℕ) → List Entry → List (Outcome Answer (List ℕ))
-outcomes memory [] = []
-outcomes memory (e ∷ es) = outcome ((result memory e) .answer) ((result memory e) .memory .other) ∷ outcomes (after memory e) es
+-- a call's role in a list. It is fed to the book as this call; or it comes between, unfed, with an outcome that plan and book tell;
+-- or it is a reset in between. What is lent to it beside the state memory is its other memory
+pub data Role : Type 0 where
+  feeds : Call → (other : List ℕ) → Role
+  between : (Plan → Book → (other : List ℕ) → Outcome Answer (List ℕ)) → (other : List ℕ) → Role
+  resets : Role
 
--- five words for each exit that a step answers
-abbrev pub wordCount : Answer → ℕ
-wordCount (Done count) = 5 * count
-wordCount (Refused number place) = 0
+abbrev pub role : Asked → Role
+role (offer flow) = feeds (BookCalls.offer flow) []
+role (step delivery) = feeds (BookCalls.step (length delivery)) delivery
+role (write notes target) = between (λ p b. bytesOn (planBytes notes p)) target
+role (reset file) = resets
 
-abbrev pub deliveredBy : Entry → Outcome Answer Lent → List ℕ
-deliveredBy (whole (offer flow)) r = []
-deliveredBy (whole (step delivery)) r = take (wordCount (r .answer)) (r .memory .other)
-deliveredBy (whole (write notes target)) r = []
-deliveredBy (whole (reset file number place)) r = []
-deliveredBy (first room c) r = []
+-- a call refused with 8 for being lent too little of the state memory comes between
+abbrev pub tooLittle : Role → Role
+tooLittle (feeds call other) = between (λ p b. refused 8) other
+tooLittle (between tells other) = between (λ p b. refused 8) other
+tooLittle resets = resets
 
--- the words that the steps delivered, in order
-abbrev pub deliveredWords : (memory : List ℕ) → List Entry → List ℕ
-deliveredWords memory [] = []
-deliveredWords memory (e ∷ es) = deliveredBy e (result memory e) ++ deliveredWords (after memory e) es
+abbrev pub roleIn : Plan → Item → Role
+roleIn p i = cond (ltb (i .words) (planSize p)) (tooLittle (role (i .asked))) (role (i .asked))
+
+-- a list ends before the next accepted reset: the one condition on it
+abbrev pub MayCome : Role → Answer → Type 0
+MayCome (feeds call other) answer = Unit {0}
+MayCome (between tells other) answer = Unit {0}
+MayCome resets (Done value) = ⊥
+MayCome resets (Refused number place) = Unit {0}
+
+abbrev pub IsList : (memory : List ℕ) → List Item → Type 0
+IsList memory [] = Unit {0}
+IsList memory (i ∷ is) = MayCome (role (i .asked)) ((onMemory memory i) .answer) × IsList ((onMemory memory i) .memory .state) is
 
 -- what the book is fed: each offer's flow and each step's length of delivery memory
-abbrev pub fed : List Entry → List BookCalls.Call
-fed [] = []
-fed (whole (offer flow) ∷ es) = BookCalls.offer flow ∷ fed es
-fed (whole (step delivery) ∷ es) = BookCalls.step (length delivery) ∷ fed es
-fed (whole (write notes target) ∷ es) = fed es
-fed (whole (reset file number place) ∷ es) = fed es
-fed (first room c ∷ es) = fed es
+abbrev pub fedAs : Role → List Call
+fedAs (feeds call other) = call ∷ []
+fedAs (between tells other) = []
+fedAs resets = []
 
--- 8 for a call lent too little, with all as it was
-abbrev pub tooLittle : Call → Outcome Answer (List ℕ)
-tooLittle (offer flow) = refused 8 []
-tooLittle (step delivery) = refused 8 delivery
-tooLittle (write notes target) = refused 8 target
-tooLittle (reset file number place) = outcome (Refused number place) []
+abbrev pub fed : Plan → List Item → List Call
+fed p [] = []
+fed p (i ∷ is) = fedAs (roleIn p i) ++ fed p is
 
--- what the book has for each call: its answer, and a step's words in front of the delivery memory, whose rest is as lent
-abbrev pub expected : Plan → Book → List Entry → List (Outcome Answer (List ℕ))
-expected p b [] = []
-expected p b (whole (offer flow) ∷ es) =
-    let now : Fed = feed p b (BookCalls.offer flow) in
-    outcome (now .reply) [] ∷ expected p (now .book) es
-expected p b (whole (step delivery) ∷ es) =
-    let now : Fed = feed p b (BookCalls.step (length delivery)) in
-    outcome (now .reply) (over (wordsOf (now .delivered)) delivery) ∷ expected p (now .book) es
-expected p b (whole (write notes target) ∷ es) = bytesOn (planBytes notes p) target ∷ expected p b es
-expected p b (whole (reset file number place) ∷ es) = outcome (Refused number place) [] ∷ expected p b es
-expected p b (first room c ∷ es) = tooLittle c ∷ expected p b es
+-- each call's answer, and its other memory afterwards
+abbrev pub beside : Outcome Answer Lent → Outcome Answer (List ℕ)
+beside o = outcome (o .answer) (o .memory .other)
 
--- the packet book after a list: its lines, its answers and all that was delivered
-abbrev pub bookRun : Plan → List Entry → Run
-bookRun p es = run p (fed es)
+abbrev pub outcomes : (memory : List ℕ) → List Item → List (Outcome Answer (List ℕ))
+outcomes memory [] = []
+outcomes memory (i ∷ is) = beside (onMemory memory i) ∷ outcomes ((onMemory memory i) .memory .state) is
+
+-- the words of the book's state; those past its size are as lent
+abbrev pub bookMemory : Plan → Book → (words : List ℕ) → List ℕ
+bookMemory p b words = stateWords (bookState p b) ++ drop (planSize p) words
+
+-- what the book has for a call: a fed one's answer, and its deliveries' words in front of the other memory
+abbrev pub due : Plan → Book → (words : List ℕ) → Item → Role → Outcome Answer (List ℕ)
+due p b words i (feeds call other) = outcome ((feed p b call) .reply) (over (wordsOf ((feed p b call) .delivered)) other)
+due p b words i (between tells other) = tells p b other
+due p b words i resets = beside (onMemory (bookMemory p b words) i)
+
+abbrev pub expected : Plan → Book → (words : List ℕ) → List Item → List (Outcome Answer (List ℕ))
+expected p b words [] = []
+expected p b words (i ∷ is) = due p b words i (roleIn p i) ∷ expected p ((runFrom p b (fedAs (roleIn p i))) .book) words is
+
+-- the words that the steps delivered, in order: five for each exit that a step answers
+abbrev pub wordCount : Answer → ℕ
+wordCount (Done count) = exitSize * count
+wordCount (Refused number place) = 0
+
+abbrev pub deliveredBy : Role → Outcome Answer (List ℕ) → List ℕ
+deliveredBy (feeds call other) o = take (wordCount (o .answer)) (o .memory)
+deliveredBy (between tells other) o = []
+deliveredBy resets o = []
+
+abbrev pub deliveredWords : (memory : List ℕ) → List Item → List ℕ
+deliveredWords memory [] = []
+deliveredWords memory (i ∷ is) =
+    deliveredBy (role (i .asked)) (beside (onMemory memory i)) ++ deliveredWords ((onMemory memory i) .memory .state) is
 
 -- what a list comes to, from the state memory that an accepted reset of plan p left of the lent words
-pub record Follows (p : Plan) (words memory : List ℕ) (es : List Entry) : Type 0 where
+pub record Follows (p : Plan) (words memory : List ℕ) (is : List Item) : Type 0 where
   -- each call's answer and the words that the steps delivered, in order, are the book's
-  pub answered : outcomes memory es ≡ expected p (start p) es
-  pub delivered : deliveredWords memory es ≡ wordsOf ((bookRun p es) .delivered)
+  pub answered : outcomes memory is ≡ expected p (start p) words is
+  pub delivered : deliveredWords memory is ≡ wordsOf ((run p (fed p is)) .delivered)
   -- so is every word of the state; words past its size are as lent
-  pub state : memoryAfter memory es ≡ over (stateWords (bookState p ((bookRun p es) .book))) words
+  pub state : memoryAfter memory is ≡ bookMemory p ((run p (fed p is)) .book) words
   -- these words form a state: 9 never comes up, and 8 only for too little of them
-  pub formed : stateNumber (memoryAfter memory es) ≡ 0
+  pub formed : stateNumber (memoryAfter memory is) ≡ 0
   -- the book keeps its promises
-  pub promised : Promises p ((bookRun p es) .book) ((bookRun p es) .delivered)
+  pub promised : Promises p ((run p (fed p is)) .book) ((run p (fed p is)) .delivered)
 
 -- for every plan file that reset accepts, every state memory of at least its size and every list of calls
 abbrev pub EveryList : Type 0
 EveryList =
     (file words : List ℕ) → ((i : ℕ) → getD file i 0 < 256) → (resetOn file words) .answer ≡ Done 0
-    → (es : List Entry) → IsList (planOf file) ((resetOn file words) .memory) es
-    → Follows (planOf file) words ((resetOn file words) .memory) es
+    → (is : List Item) → IsList ((resetOn file words) .memory) is
+    → Follows (planOf file) words ((resetOn file words) .memory) is
