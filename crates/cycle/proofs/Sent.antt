@@ -25,6 +25,12 @@ pub shows-none : (p : Plan) (r : Register) → noPacket (shown p r) ≡ isEmpty 
 shows-none p Empty = refl
 shows-none p (Packet flow serial entry deflections) = refl
 
+-- what exits is a packet
+pub exits-some : (p : Plan) (x y : ℕ) (r : Register) → exits p x y r ≡ true → isEmpty r ≡ false
+unfolding exits
+exits-some p x y Empty e = absurd (false≢true e)
+exits-some p x y (Packet flow serial entry deflections) e = refl
+
 -- by a way out, of what goes E and what goes S, where that exits or not
 abbrev by : Way → (exit : Bool) → (east south : Register) → Register
 by (via East) exit east south = east

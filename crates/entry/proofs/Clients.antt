@@ -1,8 +1,9 @@
 -- The entrants of a state's clients, in the order of its routers. Rests on Entrant and the facts of a state.
 use mathlib.Core.Bool.{true}
 use mathlib.Core.List.{List}
+use mathlib.Core.Option.{Option, Option·some-injective, Option·some-ne-none}
 use mathlib.Core.Path.{_≡_, _∙_}
-use Prim.Native.Nat.{ℕ, _+_, _<_}
+use Prim.Native.Nat.{ℕ, zero, suc, _+_, _≤_, _<_}
 use native.Mathlib.Omega.{arith}
 use lib.ListN.{length, getD, set}
 use Rattle.laws.specs.Grid.{cellIndex}
@@ -11,6 +12,7 @@ use Rattle.flow.specs.declared.Flow.{Flow}
 use Rattle.flow.specs.Plan.{flowAt}
 use Rattle.router.specs.Rule.{ready, entrantBelow, entrant, isFlow}
 use Rattle.router.specs.Rule as Rule
+use Rattle.router.proofs.Entrant.{Found, no-entrant, has-entrant, found}
 use Rattle.state.specs.Read.{sxIn, syIn, countIn, planIn, stateOf}
 use Rattle.state.proofs.Forms.{StateFacts}
 use Rattle.state.proofs.View.{view-count}
@@ -37,6 +39,16 @@ module _ (w : List ℕ) (s : StateFacts w) where
       → entrantIn (getD l (cellIndex (sxIn w) x y) 0) ≡ entrant ((stateOf w) .plan) (view (stateOf w)) x y
   unfolding stateOf
   entrant-all l e x y h k = entrant-found (countIn w) l e x y h k ∙ rw (view-count w)
+
+  -- a flow of the plan, where there is one
+  pub entrant-most : (x y word : ℕ) → entrantIn word ≡ entrant ((stateOf w) .plan) (view (stateOf w)) x y → word ≤ countIn w
+  unfolding entrantIn stateOf
+  entrant-most x y word e = rw (← (view-count w)) (most (found ((stateOf w) .plan) (view (stateOf w)) x y) word e)
+    where
+      most : {who : Option ℕ} → Found ((stateOf w) .plan) (view (stateOf w)) x y who → (n : ℕ) → entrantIn n ≡ who → n ≤ length ((stateOf w) .plan .flows)
+      most found′ zero e = omega arith
+      most (no-entrant unready) (suc f) e = absurd (Option·some-ne-none f e)
+      most (has-entrant g h) (suc f) e = rw (Option·some-injective f g e) (h .below)
 
   -- and the word at a flow's client says whether the flow enters
   pub entered-found : (l : List ℕ) → Entrants (stateOf w) (countIn w) l → (f : ℕ) → f < countIn w

@@ -1,6 +1,6 @@
 -- Routers that write to the registers that their outputs reach fill every register once. Rests on specs/Walk and the law of links.
-use mathlib.Core.Bool.{Bool, true, false, _&&_, and-false, false≢true}
-use mathlib.Core.List.{List, _++_}
+use mathlib.Core.Bool.{false, cond, _&&_, and-false, false≢true}
+use mathlib.Core.List.{List}
 use mathlib.Core.Logic.{_⊎_, inl, inr, _≢_}
 use mathlib.Core.Path.{_≡_, refl, sym, _∙_}
 use Prim.Native.Nat.{ℕ, _+_, _*_, _≤_, _<_}
@@ -9,7 +9,7 @@ use native.Mathlib.Omega.{arith}
 use borrow.Author.Tests.{ne-eqb}
 use lib.Dec.{eqb}
 use lib.ListN.{length}
-use lib.Seq.{sets, length-sets}
+use lib.Seq.{length-sets}
 use Rattle.laws.specs.Grid.{cellIndex}
 use Rattle.laws.specs.Turns.{turns}
 use Rattle.laws.proofs.Cases.{both-eqb}
@@ -24,11 +24,14 @@ use Rattle.router.specs.Links.{reach, feeder}
 use Rattle.router.specs.Rule.{via}
 use Rattle.router.proofs.Links.{reach-same, feeder-on, reach-feeder}
 use Rattle.state.specs.declared.Register.{Register}
+use Rattle.state.specs.declared.Register.the-variants.{Empty}
 use Rattle.state.specs.Layout.{registerSize, routerSize}
 use Rattle.state.specs.Words.{registerWords, cellWords}
 use Rattle.state.specs.Read.{sxIn, syIn, planIn, stateOf}
 use Rattle.state.proofs.Words.{length-register}
+use Rattle.cycle.specs.Sent.{eastward, southward, exits}
 use Rattle.cycle.specs.Step.{carried, nextRegister, nextCell}
+use Rattle.cycle.proofs.Sent.{east-is, south-is}
 use Rattle.routing.specs.declared.Grid.{Grid}
 use Rattle.routing.specs.Walk.{gridIn, torusOf, registersOf, registersIn, registerPlace, push, pushed, pushedRow, pushedAll}
 
@@ -176,3 +179,10 @@ module _ (w : List ℕ) (l : List ℕ) where
       stands-append 0 _ (registerWords (nextRegister (stateOf w) (W x y))) (registerWords (nextRegister (stateOf w) (N x y))) _
       (all-hold (gridIn w) sent l room (W x y) h k)
       (rw (length-register (nextRegister (stateOf w) (W x y))) (all-hold (gridIn w) sent l room (N x y) h k))
+
+  -- by what the code sends
+  pub pushed-is : (x y : ℕ) → let s = stateOf w in
+      push (gridIn w) x y South (cond (exits (s .plan) x y (southward s x y)) Empty (southward s x y)) (push (gridIn w) x y East (eastward s x y) l)
+      ≡ pushed w x y l
+  unfolding pushed
+  pushed-is x y = rw (east-is (stateOf w) x y, south-is (stateOf w) x y)
