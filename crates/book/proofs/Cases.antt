@@ -13,7 +13,9 @@ use Rattle.window.specs.declared.Window.the-variants.{Nothing}
 use Rattle.window.specs.Conflict as Conflict
 use Rattle.window.specs.Window as Window
 use Rattle.window.proofs.Windows.{window-none}
-use Rattle.book.specs.Cycle.{westTurns, sent, ready, enters, lowest, deliveries}
+use Rattle.router.specs.Links as Links
+use Rattle.router.specs.Rule as Rule
+use Rattle.book.specs.Cycle.{holds, sent, lowest, deliveries}
 use Rattle.book.specs.Calls.{refusal, feed}
 use Rattle.book.specs.Cases.{starred, across, AllHold}
 
@@ -24,9 +26,9 @@ unfolding Bounded.sumBelow Axis.offset Curve.curve Conflict.conflict Conflict.co
 filled = window-none (across 1 1) 0 (λ t l m. omega (arith, div-one (t - 1 + 0)))
 
 pub starred-hold : AllHold starred
-unfolding Bounded.tabulate Bounded.anyBelow Bounded.sumBelow Axis.offset Axis.next Regulator.afterCount Regulator.afterCycle
+unfolding Bounded.tabulate Bounded.firstBelow Bounded.sumBelow Axis.offset Axis.next Regulator.afterCount Regulator.afterCycle Links.reach
     Curve.curve Conflict.conflict Conflict.conflictEast Conflict.conflictSouth Window.share Window.shareOf Window.interference
-    Window.leastFrom Window.windowOf westTurns sent ready enters lowest deliveries refusal feed
+    Window.leastFrom Window.windowOf Rule.turnsSouth Rule.isOpen Rule.ready Rule.enters holds sent lowest deliveries refusal feed
     Limits.offerNumber Limits.stepNumber
 starred-hold = (refl, (refl, ((refl, refl), ((refl, refl), (refl, (refl, ((refl, refl), (refl, ((refl, refl), later)))))))))
   where

@@ -14,14 +14,13 @@ use Rattle.laws.proofs.Cases.{test, eqb-swap}
 use Rattle.laws.proofs.Sum.{sum-same}
 use Rattle.laws.proofs.Count.{count-map, count-same, count-sum, count-keep, count-join, count-split}
 use Rattle.flow.specs.declared.Flow.{Flow}
-use Rattle.flow.specs.declared.Port.{Port}
-use Rattle.flow.specs.declared.Port.the-variants.{East, South}
 use Rattle.flow.specs.Plan.{Plan, flowAt, FlowOk, PlanOk}
+use Rattle.router.specs.Rule.{Way, via, leave}
+use Rattle.router.specs.Delivery.{Delivery}
 use Rattle.book.specs.Line.{Stage, waiting, placed, left, Line, isLeft, leftAt, entryOf, exitOf}
 use Rattle.book.specs.Book.{Book}
-use Rattle.book.specs.Cycle.{enters, lowest, sent, deflected, moveStage, move, stepped, Delivery, deliveryOf, exitsOf, deliveries}
-use Rattle.book.proofs.Path.{Sound}
-use Rattle.book.proofs.Traced.{line-ok, traced-step}
+use Rattle.book.specs.Cycle.{enters, lowest, sent, isDeflected, moveStage, move, stepped, deliveryOf, exitsOf, deliveries}
+use Rattle.book.proofs.Traced.{Sound, line-ok, traced-step}
 use Rattle.book.proofs.Spans.{Lawful}
 
 -- the exit is in cycle c, and its router
@@ -78,11 +77,10 @@ exits-count p c ls on t =
         ∙ sum-same _ _ (p .sx) (λ x k. in-column x y)
         ∙ sym (count-split (λ l. eqb (rowLeft (l .stage)) y && now l) (λ l. columnLeft (l .stage)) (p .sx) ls (λ l m e. on l m .0))
 
-module _ (p : Plan) (f : Flow) (c e x y : ℕ) where
-  sent-left : (o : Port) → isLeft (sent p f c e x y o) ≡ leftIn c (sent p f c e x y o)
-  unfolding sent
-  sent-left East = refl
-  sent-left South = elim (test (eqb x (f .xd) && eqb y (f .yd))) [ inl h ↦ rw (h, eq-eqb c c refl) | inr h ↦ rw h ]
+sent-left : (p : Plan) (c e x y : ℕ) (o : Way) → isLeft (sent p c e x y o) ≡ leftIn c (sent p c e x y o)
+unfolding sent
+sent-left p c e x y (via o) = refl
+sent-left p c e x y leave = sym (eq-eqb c c refl)
 
 -- a line has left and passes the test
 abbrev pub gone : (Delivery → Bool) → Line → Bool
@@ -93,7 +91,7 @@ left-on : (p : Plan) → PlanOk p → (f : Flow) → FlowOk (p .sx) (p .sy) f �
     → (columnLeft s < p .sx) × (rowLeft s < p .sy)
 left-on p ok f k c D waiting h = (ok .sx-least, ok .sy-least)
 left-on p ok f k c D (placed e at) h = (ok .sx-least, ok .sy-least)
-left-on p ok f k c D (left e t x y) h = (rw (h .column) (k .xd-on), rw (h .row) (k .yd-on))
+left-on p ok f k c D (left e t x y) h = (rw (h .out .column) (k .xd-on), rw (h .out .row) (k .yd-on))
 
 module _ (p : Plan) (b : Book) (law : Lawful p b) (r : Delivery → Bool) where
   abbrev c : ℕ
@@ -103,7 +101,8 @@ module _ (p : Plan) (b : Book) (law : Lawful p b) (r : Delivery → Bool) where
   leaving : (l : Line) (D : ℕ) (s : Stage) → Sound p (flowAt p (l .flow)) c D s
       → let new : Stage = moveStage p b l s in
       let words : ℕ → Stage → Delivery = λ d u. record { flow = l .flow; serial = l .serial; entry = entryOf u; exit = exitOf u; D = d } in
-      one (isLeft new && r (words (D + one (deflected p b s)) new)) ≡ one (isLeft s && r (words D s)) + one (leftIn c new && r (words (D + one (deflected p b s)) new))
+      let after : ℕ = D + one (isDeflected p b s) in
+      one (isLeft new && r (words after new)) ≡ one (isLeft s && r (words D s)) + one (leftIn c new && r (words after new))
   leaving l D waiting h =
       elim (test (enters p b (l .flow) && lowest b l)) [ inl go ↦ rw (go, sent-left) (omega arith) | inr go ↦ rw go ]
   leaving l D (placed e at) h = rw sent-left (omega arith)

@@ -108,7 +108,7 @@ module _ (p : Plan) (f : ℕ) (in-plan : f < length (p .flows)) (T : ℕ) (windo
               inr (held-now (stepped p b) from (omega arith) (omega (arith, h .soon)) (omega arith))
         ]
     head-step (inr h) =
-        let busy = busy-step p b law f (h .since) (h .busy) waits (h .token) in
+        let busy = busy-step p b law f (h .since) (h .busy) in-plan waits (h .token) in
         let alone : span (stepped p b) f (h .since) (b .clock + 1) ≡ 0
         = span-new p b law f (h .since) (h .busy .now) ∙ omega (arith, h .alone, ap one out) in
         inr (record {

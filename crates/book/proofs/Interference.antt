@@ -113,13 +113,13 @@ busy-offer p b f g s h =
 
 module _ (p : Plan) (b : Book) (law : Lawful p b) (f s : ℕ) (busy : Busy p b f s) where
   -- a cycle more, with f waiting and with a token
-  pub busy-step : any (waitsFor f) (b .lines) ≡ true → 1 ≤ (bucketAt b f) .tokens → Busy p (stepped p b) f s
-  busy-step w token =
+  pub busy-step : f < length (p .flows) → any (waitsFor f) (b .lines) ≡ true → 1 ≤ (bucketAt b f) .tokens → Busy p (stepped p b) f s
+  busy-step in-plan w token =
       let own = span-new p b law f s (busy .now) in
       record {
         now = omega (arith, busy .now);
         taken = elim (test (enters p b f)) [
-          | inr out ↦ omega (arith, busy .taken, charge p b law f s (busy .now) w token out, ap one out)
+          | inr out ↦ omega (arith, busy .taken, charge p b law f s in-plan (busy .now) w token out, ap one out)
           | inl go ↦ omega (arith, busy .taken, passed-more p b law f s, ap one go)
         ];
       }

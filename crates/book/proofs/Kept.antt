@@ -16,16 +16,17 @@ use Rattle.laws.proofs.Cases.{test, and-true}
 use Rattle.laws.proofs.Count.{one-most, count-map, count-append, count-mono}
 use Rattle.flow.specs.Plan.{Plan, flowAt, PlanOk}
 use Rattle.window.specs.Window.{interference}
+use Rattle.router.specs.Delivery.{Delivery}
 use Rattle.book.specs.Line.{Line, isWaiting}
 use Rattle.book.specs.Book.{Book, ofFlow, waitsFor, waitingOf, enteredOf, start, offered, offeredLine}
-use Rattle.book.specs.Cycle.{enters, move, stepped, Delivery}
+use Rattle.book.specs.Cycle.{enters, move, stepped}
 use Rattle.flow.specs.Limits.{roomFor, lastClock, mostWaiting, offerNumber, stepNumber}
 use Rattle.plan.specs.declared.Answer.the-variants.{Refused}
 use Rattle.book.specs.Calls.{Call, offer, step, refusal, Fed, accepted, feed, runFrom, run}
 use Rattle.book.proofs.Moves.{turn, waited}
 use Rattle.book.proofs.Queue.{entered-step, entered-offer}
 use Rattle.book.proofs.Spans.{Lawful, lawful-start, lawful-offer, lawful-step}
-use Rattle.book.proofs.Outputs.{Apart}
+use Rattle.book.proofs.Held.{Apart}
 use Rattle.book.proofs.Places.{apart-step, apart-offer}
 use Rattle.book.proofs.Pace.{Pace, pace-start, pace-offer, pace-step}
 use Rattle.book.proofs.Deliveries.{gone, step-delivered}

@@ -1,10 +1,9 @@
 -- The promises of the packet book.
-pub mod Path
 pub mod Moves
-pub mod Entries
 pub mod Queue
 pub mod Traced
 pub mod Spans
+pub mod Held
 pub mod Meetings
 pub mod Takers
 pub mod Charge
@@ -12,6 +11,7 @@ pub mod Interference
 pub mod Head
 pub mod Pace
 pub mod Outputs
+pub mod Sends
 pub mod Places
 pub mod Deliveries
 pub mod Kept

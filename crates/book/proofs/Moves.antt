@@ -3,12 +3,9 @@ use mathlib.Core.Bool.{Bool, true, false, not, _&&_, false≢true}
 use mathlib.Core.Logic.{inl, inr}
 use mathlib.Core.Path.{_≡_, refl, sym, _∙_}
 use Prim.Native.Nat.{ℕ}
-use lib.Dec.{eqb}
 use Rattle.laws.proofs.Cases.{test, and-true}
-use Rattle.flow.specs.declared.Flow.{Flow}
-use Rattle.flow.specs.declared.Port.{Port}
-use Rattle.flow.specs.declared.Port.the-variants.{East, South}
 use Rattle.flow.specs.Plan.{Plan}
+use Rattle.router.specs.Rule.{Way, via, leave}
 use Rattle.book.specs.Line.{Stage, waiting, placed, left, Line, isWaiting, entryOf}
 use Rattle.book.specs.Book.{Book}
 use Rattle.book.specs.Cycle.{enters, lowest, sent, moveStage, move}
@@ -17,17 +14,17 @@ use Rattle.book.specs.Cycle.{enters, lowest, sent, moveStage, move}
 abbrev pub goes : Plan → Book → Line → Bool
 goes p b l = isWaiting (l .stage) && (enters p b (l .flow) && lowest b l)
 
-module _ (p : Plan) (f : Flow) (c e x y : ℕ) where
+module _ (p : Plan) (c e x y : ℕ) where
   -- a packet that is sent has an entry, the one it had
-  pub sent-waits : (o : Port) → isWaiting (sent p f c e x y o) ≡ false
+  pub sent-waits : (o : Way) → isWaiting (sent p c e x y o) ≡ false
   unfolding sent
-  sent-waits East = refl
-  sent-waits South = elim (test (eqb x (f .xd) && eqb y (f .yd))) [ inl h ↦ rw h | inr h ↦ rw h ]
+  sent-waits (via o) = refl
+  sent-waits leave = refl
 
-  pub sent-entry : (o : Port) → entryOf (sent p f c e x y o) ≡ e
+  pub sent-entry : (o : Way) → entryOf (sent p c e x y o) ≡ e
   unfolding sent
-  sent-entry East = refl
-  sent-entry South = elim (test (eqb x (f .xd) && eqb y (f .yd))) [ inl h ↦ rw h | inr h ↦ rw h ]
+  sent-entry (via o) = refl
+  sent-entry leave = refl
 
 -- what a step does to a line: it keeps its entry, it waits on, or it comes in
 pub data Turn (p : Plan) (b : Book) (l : Line) : Type 0 where
@@ -41,13 +38,13 @@ module _ (p : Plan) (b : Book) (l : Line) where
   moved-waits : (s : Stage) → isWaiting (moveStage p b l s) ≡ isWaiting s && not (enters p b (l .flow) && lowest b l)
   moved-waits waiting =
       elim (test (enters p b (l .flow) && lowest b l)) [ inl h ↦ rw (h, sent-waits) | inr h ↦ rw h ]
-  moved-waits (placed e at) = sent-waits p _ _ _ _ _ _
+  moved-waits (placed e at) = sent-waits p _ _ _ _ _
   moved-waits (left e t x y) = refl
 
   -- an entry stays; a new one is the clock
   moved-entry : (s : Stage) → isWaiting s ≡ false → entryOf (moveStage p b l s) ≡ entryOf s
   moved-entry waiting h = absurd (false≢true (sym h))
-  moved-entry (placed e at) h = sent-entry p _ _ _ _ _ _
+  moved-entry (placed e at) h = sent-entry p _ _ _ _ _
   moved-entry (left e t x y) h = refl
 
   new-entry : (s : Stage) → isWaiting s ≡ true → enters p b (l .flow) && lowest b l ≡ true → entryOf (moveStage p b l s) ≡ b .clock

@@ -1,222 +1,189 @@
--- One output carries one packet. Rests on Entries and Queue.
-use mathlib.Core.Bool.{Bool, true, false, cond, not, _&&_, _||_, false≢true, and-false, or-false}
-use mathlib.Core.List.{List·Memᴰ as Mem}
+-- Who leaves a router by each way out: the line in W, the line in N or the client's, and of these one at most. Rests on Held, Queue and
+-- the laws of the routing rule.
+use mathlib.Core.Bool.{Bool, true, false, cond, _&&_, and-true as and-so, false≢true}
+use mathlib.Core.List.{List, [], List·Memᴰ as Mem}
 use mathlib.Core.Logic.{inl, inr}
+use mathlib.Core.Option.{Option, none, some}
 use mathlib.Core.Path.{_≡_, refl, sym, ap, _∙_}
-use Prim.Native.Nat.{ℕ, _+_, _≤_}
-use native.Mathlib.Nat.{le-trans}
+use Prim.Native.Nat.{ℕ, _≤_}
 use native.Mathlib.Decide.{ℕ-discrete}
 use native.Mathlib.Omega.{arith}
-use borrow.Author.Tests.{eq-eqb, ne-eqb, eqb-true, not-false}
+use borrow.Author.Tests.{eq-eqb, ne-eqb, eqb-true}
 use lib.Dec.{eqb}
-use Rattle.laws.specs.Count.{one, count, any}
-use Rattle.laws.proofs.Cases.{test, and-true}
-use Rattle.laws.proofs.Count.{one-most, any-true, any-mem, mem-count, any-count, none-count, count-mono, count-sum}
+use lib.ListN.{length}
+use Rattle.laws.specs.Count.{keep}
+use Rattle.laws.proofs.Cases.{test, never, and-true, eqb-both, both-eqb}
+use Rattle.laws.proofs.Count.{one-most}
+use Rattle.laws.proofs.Keep.{keep-same, keep-none, length-keep}
 use Rattle.flow.specs.declared.Flow.{Flow}
-use Rattle.flow.specs.declared.Port.{Port}
-use Rattle.flow.specs.declared.Port.the-variants.{East, South}
-use Rattle.flow.specs.Offsets.{portOf, samePort}
+use Rattle.flow.specs.Offsets.{portOf}
 use Rattle.flow.specs.Plan.{Plan, flowAt}
-use Rattle.place.specs.Place.{Place, W, N}
+use Rattle.place.specs.Place.{Place, W, N, columnOf, rowOf}
+use Rattle.router.specs.Rule.{Seen, Way, sameWay, takes, isClient, isFlow, entrant, wayIn}
+use Rattle.router.proofs.Rule.{way-refl, way-same, takes-own, north-yields, open-west, open-north}
+use Rattle.router.proofs.Entrant.{Found, no-entrant, has-entrant, found, entering-ready, enters-at}
 use Rattle.book.specs.Line.{Stage, waiting, placed, left, Line, isWaiting, standsIn}
 use Rattle.book.specs.Book.{Book, ofFlow}
-use Rattle.book.specs.Cycle.{full, turns, westTurns, isOpen, enters, lowest, leaves, leavesBy}
-use Rattle.book.proofs.Entries.{turns-any, turns-some, client-same, entering-ready, one-enters}
-use Rattle.book.proofs.Moves.{goes}
+use Rattle.book.specs.Cycle.{linesIn, holds, seen, view, output, enters, lowest}
+use Rattle.book.proofs.Moves.{goes, goes-enters}
 use Rattle.book.proofs.Queue.{Queued, goes-count}
+use Rattle.book.proofs.Held.{Apart, holds-own}
 
--- no two lines share a place
-abbrev pub Apart : Book → Type 0
-Apart b = (at : Place) → count (λ (l : Line). standsIn at (l .stage)) (b .lines) ≤ 1
+-- the line's packet takes this way out of the router in column x and row y in the step
+abbrev pub leaves : Plan → Book → Line → (x y : ℕ) → Way → Stage → Bool
+leaves p b l x y o waiting = enters p b (l .flow) && lowest b l && (isClient p x y (l .flow) && sameWay (wayIn p (l .flow)) o)
+leaves p b l x y o (placed e at) = eqb x (columnOf at) && eqb y (rowOf at) && sameWay (output p b (flowAt p (l .flow)) at) o
+leaves p b l x y o (left e t x′ y′) = false
 
-port-same : (a o : Port) → samePort a o ≡ true → a ≡ o
-port-same East East e = refl
-port-same East South e = absurd (false≢true e)
-port-same South East e = absurd (false≢true e)
-port-same South South e = refl
+abbrev pub leavesBy : Plan → Book → (x y : ℕ) → Way → Line → Bool
+leavesBy p b x y o l = leaves p b l x y o (l .stage)
 
--- an output that is S where a test passes, and E where it fails
-to-south : (t : Bool) → samePort (cond t South East) South ≡ true → t ≡ true
-to-south true e = refl
-to-south false e = absurd (false≢true e)
+abbrev pub outgoing : Plan → Book → (x y : ℕ) → Way → List Line
+outgoing p b x y o = keep (leavesBy p b x y o) (b .lines)
 
-to-east : (t : Bool) → samePort (cond t South East) East ≡ true → t ≡ false
-to-east true e = absurd (false≢true e)
-to-east false e = refl
+-- the line of a client's flow that enters, where it takes this way out
+abbrev pub entrantsOf : Plan → Book → Way → Option ℕ → List Line
+entrantsOf p b o none = []
+entrantsOf p b o (some f) = cond (sameWay (wayIn p f) o) (keep (λ l. ofFlow f l && goes p b l) (b .lines)) []
 
 module _ (p : Plan) (b : Book) (x y : ℕ) where
-  -- what leaves by an output comes from W, from N or from the client
-  abbrev fromWest : Port → Line → Stage → Bool
-  fromWest o l s = standsIn (W x y) s && samePort (cond (eqb x ((flowAt p (l .flow)) .xd)) South East) o
+  abbrev s : Seen
+  s = seen p b x y
 
-  abbrev fromNorth : Port → Stage → Bool
-  fromNorth o s = standsIn (N x y) s && samePort (cond (not (westTurns p b x y)) South East) o
+  -- a client's line that enters and takes this way out
+  abbrev comesAt : Way → Line → Stage → Bool
+  comesAt o l st = isWaiting st && (enters p b (l .flow) && lowest b l) && (isClient p x y (l .flow) && sameWay (wayIn p (l .flow)) o)
 
-  abbrev pub fromClient : Port → Line → Stage → Bool
-  fromClient o l s =
-      let φ : Flow = flowAt p (l .flow) in
-      isWaiting s && (enters p b (l .flow) && lowest b l) && (eqb x (φ .xs) && eqb y (φ .ys) && samePort (portOf (p .sx) φ) o)
+  abbrev comes : Way → Line → Bool
+  comes o l = comesAt o l (l .stage)
 
-  abbrev west : Port → Line → Bool
-  west o l = fromWest o l (l .stage)
+  -- a line is in W, in N or in neither: it leaves where that register's packet does, or as its client's
+  data Source (o : Way) (l : Line) (st : Stage) : Type 0 where
+    in-west : standsIn (W x y) st ≡ true → standsIn (N x y) st ≡ false → comesAt o l st ≡ false → leaves p b l x y o st ≡ takes s (W x y) o → Source o l st
+    in-north : standsIn (W x y) st ≡ false → standsIn (N x y) st ≡ true → comesAt o l st ≡ false → leaves p b l x y o st ≡ takes s (N x y) o → Source o l st
+    in-neither : standsIn (W x y) st ≡ false → standsIn (N x y) st ≡ false → leaves p b l x y o st ≡ comesAt o l st → Source o l st
 
-  abbrev north : Port → Line → Bool
-  north o l = fromNorth o (l .stage)
-
-  abbrev pub client : Port → Line → Bool
-  client o l = fromClient o l (l .stage)
-
-  source : (o : Port) (l : Line) (s : Stage) → one (leaves p b l x y o s) ≡ one (fromWest o l s) + one (fromNorth o s || fromClient o l s)
-  source o l waiting = omega arith
-  source o l (placed e (W x′ y′)) = elim (ℕ-discrete x x′) [ yes h ↦ rw h (omega arith) | no h ↦ rw (ne-eqb x x′ h) ]
-  source o l (placed e (N x′ y′)) =
-      elim (ℕ-discrete x x′) [
-        | no h ↦ rw (ne-eqb x x′ h)
-        | yes h ↦ elim (ℕ-discrete y y′) [
-          | no k ↦ rw (ne-eqb y y′ k, and-false (eqb x x′))
-          | yes k ↦ rw (h, k) (elim (test (westTurns p b x′ y′)) [ inl t ↦ rw (t, or-false) (omega arith) | inr t ↦ rw (t, or-false) (omega arith) ])
-        ]
+  source : (o : Way) (l : Line) (st : Stage) → ((at : Place) → standsIn at st ≡ true → holds p b at ≡ some (flowAt p (l .flow))) → Source o l st
+  source o l waiting own = in-neither refl refl refl
+  source o l (placed e (W x′ y′)) own =
+      elim (test (eqb x x′ && eqb y y′)) [
+        | inr other ↦ in-neither other refl (rw other)
+        | inl here ↦
+            let k = eqb-both x x′ y y′ here in
+            in-west here refl refl (rw (here, ← (k .0), ← (k .1)) (sym (takes-own s (W x y) (flowAt p (l .flow)) o (own (W x y) here))))
       ]
-  source o l (left e t x′ y′) = refl
-
-  -- a packet of N and one of the client aren't one line
-  source-other : (o : Port) (l : Line) (s : Stage) → one (fromNorth o s || fromClient o l s) ≡ one (fromNorth o s) + one (fromClient o l s)
-  source-other o l waiting = omega arith
-  source-other o l (placed e (W x′ y′)) = refl
-  source-other o l (placed e (N x′ y′)) = rw or-false (omega arith)
-  source-other o l (left e t x′ y′) = refl
-
-  sources : (o : Port) → count (leavesBy p b x y o) (b .lines) ≡ count (west o) (b .lines) + (count (north o) (b .lines) + count (client o) (b .lines))
-  sources o =
-      count-sum (leavesBy p b x y o) (west o) (λ l. north o l || client o l) (b .lines) (λ l m. source o l (l .stage))
-      ∙ ap (λ (n : ℕ). count (west o) (b .lines) + n)
-      (count-sum (λ l. north o l || client o l) (north o) (client o) (b .lines) (λ l m. source-other o l (l .stage)))
-
-  full-mem : (at : Place) (l : Line) → Mem l (b .lines) → standsIn at (l .stage) ≡ true → full b at ≡ true
-  full-mem at l m h = any-mem (λ (k : Line). standsIn at (k .stage)) (b .lines) m h
-
-  -- a line of the client that enters by this output
-  pub record Entering (o : Port) (l : Line) : Type 0 where
-    pub waits : isWaiting (l .stage) ≡ true
-    pub entering : enters p b (l .flow) ≡ true
-    pub first : lowest b l ≡ true
-    pub column : x ≡ (flowAt p (l .flow)) .xs
-    pub row : y ≡ (flowAt p (l .flow)) .ys
-    pub port : portOf (p .sx) (flowAt p (l .flow)) ≡ o
-
-  pub client-parts : (o : Port) (l : Line) → client o l ≡ true → Entering o l
-  client-parts o l t =
-      let φ : Flow = flowAt p (l .flow) in
-      let a = and-true _ _ t in
-      let g = and-true _ _ (a .0) in
-      let e = and-true _ _ (g .1) in
-      let c = and-true _ _ (a .1) in
-      let s = and-true _ _ (c .0) in
-      record {
-        waits = g .0;
-        entering = e .0;
-        first = e .1;
-        column = eqb-true x (φ .xs) (s .0);
-        row = eqb-true y (φ .ys) (s .1);
-        port = port-same (portOf (p .sx) φ) o (c .1);
-      }
-
-  -- a client's packet leaves by an open output, and of one client only one
-  pub client-opens : (o : Port) (l : Line) → client o l ≡ true → isOpen p b x y o ≡ true
-  client-opens o l t =
-      let h = client-parts o l t in rw (h .column, h .row, ← (h .port)) (entering-ready p b (l .flow) (h .entering) .opened)
-
-  client-open : (o : Port) → any (client o) (b .lines) ≡ true → isOpen p b x y o ≡ true
-  client-open o c = let z = any-true (client o) (b .lines) c in client-opens o (z .0) (z .2)
-
-  client-one : (o : Port) → Queued b → count (client o) (b .lines) ≤ 1
-  client-one o q =
-      elim (test (any (client o) (b .lines))) [
-        | inr none ↦ omega (arith, none-count (client o) (b .lines) none)
-        | inl some ↦
-            let z = any-true (client o) (b .lines) some in
-            let h = client-parts o (z .0) (z .2) in
-            le-trans
-            (count-mono (client o) (λ l. ofFlow (z .0 .flow) l && goes p b l) (b .lines) (λ l m t. same (z .0) h l (client-parts o l t)))
-            (rw (goes-count b q p (z .0 .flow)) (one-most (enters p b (z .0 .flow))))
+  source o l (placed e (N x′ y′)) own =
+      elim (test (eqb x x′ && eqb y y′)) [
+        | inr other ↦ in-neither refl other (rw other)
+        | inl here ↦
+            let k = eqb-both x x′ y y′ here in
+            in-north refl here refl (rw (here, ← (k .0), ← (k .1)) (sym (takes-own s (N x y) (flowAt p (l .flow)) o (own (N x y) here))))
       ]
-    where
-      same : (z : Line) → Entering o z → (l : Line) → Entering o l → ofFlow (z .flow) l && goes p b l ≡ true
-      same z h l k =
-          let client = client-same (flowAt p (l .flow)) (flowAt p (z .flow)) (sym (k .column) ∙ h .column) (sym (k .row) ∙ h .row) in
-          let own = one-enters p b (l .flow) (z .flow) (k .entering) (h .entering) client in
-          rw (eq-eqb (l .flow) (z .flow) own, k .waits, k .entering, k .first)
+  source o l (left e t x′ y′) own = in-neither refl refl refl
 
-  west-client : (o : Port) → any (west o) (b .lines) ≡ true → isOpen p b x y o ≡ true → ⊥
-  west-client East w c =
-      let z = any-true (west East) (b .lines) w in
-      let h = and-true _ _ (z .2) in
-      false≢true (sym (ap not (full-mem (W x y) (z .0) (z .1) (h .0))) ∙ c)
-  west-client South w c =
-      let z = any-true (west South) (b .lines) w in
-      let h = and-true (standsIn (W x y) (z .0 .stage)) (samePort (cond (eqb x ((flowAt p (z .0 .flow)) .xd)) South East) South) (z .2) in
-      let turn = turns-any p b x y (z .0) (z .1) (rw (h .0) (to-south _ (h .1))) in
-      false≢true (sym (ap not turn) ∙ and-true (not (full b (N x y))) (not (westTurns p b x y)) c .1)
+  -- what such a line is
+  record Comer (o : Way) (l : Line) : Type 0 where
+    enters-now : enters p b (l .flow) ≡ true
+    client : isClient p x y (l .flow) ≡ true
+    way : wayIn p (l .flow) ≡ o
 
-  north-client : (o : Port) → any (north o) (b .lines) ≡ true → isOpen p b x y o ≡ true → ⊥
-  north-client East n c =
-      let z = any-true (north East) (b .lines) n in
-      let h = and-true (standsIn (N x y) (z .0 .stage)) (samePort (cond (not (westTurns p b x y)) South East) East) (z .2) in
-      let w = turns-some p b x y (not-false (westTurns p b x y) (to-east _ (h .1))) in
-      false≢true (sym (ap not (full-mem (W x y) (w .0) (w .1) (and-true _ _ (w .2) .0))) ∙ c)
-  north-client South n c =
-      let z = any-true (north South) (b .lines) n in
-      let h = and-true _ _ (z .2) in
-      false≢true (sym (ap not (full-mem (N x y) (z .0) (z .1) (h .0))) ∙ and-true _ _ c .0)
+  comer : (o : Way) (l : Line) → comes o l ≡ true → Comer o l
+  comer o l t =
+      let a = and-true (goes p b l) (isClient p x y (l .flow) && sameWay (wayIn p (l .flow)) o) t in
+      let c = and-true (isClient p x y (l .flow)) (sameWay (wayIn p (l .flow)) o) (a .1) in
+      record { enters-now = goes-enters p b l (a .0); client = c .0; way = way-same (wayIn p (l .flow)) o (c .1) }
 
-  west-north : (o : Port) → Apart b → any (west o) (b .lines) ≡ true → any (north o) (b .lines) ≡ true → ⊥
-  west-north East apart w n =
-      let z = any-true (north East) (b .lines) n in
-      let h = and-true (standsIn (N x y) (z .0 .stage)) (samePort (cond (not (westTurns p b x y)) South East) East) (z .2) in
-      let t = turns-some p b x y (not-false (westTurns p b x y) (to-east _ (h .1))) in
-      omega (
-        arith,
-        apart (W x y),
-        mem-count (turns p x y) (b .lines) (t .1) (t .2),
-        any-count (west East) (b .lines) w,
-        count-sum (λ l. standsIn (W x y) (l .stage)) (turns p x y) (west East) (b .lines)
-            (λ l m. parts (standsIn (W x y) (l .stage)) (eqb x ((flowAt p (l .flow)) .xd))),
+  -- its way is by an open port, so no packet of the router takes it
+  client-clear : (o : Way) (l : Line) → Comer o l → (takes s (W x y) o ≡ false) × (takes s (N x y) o ≡ false)
+  client-clear o l h =
+      let φ : Flow = flowAt p (l .flow) in
+      let at = eqb-both x (φ .xs) y (φ .ys) (h .client) in
+      let opened = entering-ready p (view p b) (l .flow) (h .enters-now) .opened in
+      rw (at .0, at .1, ← (h .way)) (
+        open-west (seen p b (φ .xs) (φ .ys)) (φ .xs) (φ .ys) (portOf (p .sx) φ) φ opened,
+        open-north (seen p b (φ .xs) (φ .ys)) (φ .xs) (φ .ys) (portOf (p .sx) φ) φ opened,
       )
-    where
-      parts : (s t : Bool) → one s ≡ one (s && t) + one (s && samePort (cond t South East) East)
-      parts true true = refl
-      parts true false = refl
-      parts false t = refl
-  west-north South apart w n =
-      let z = any-true (west South) (b .lines) w in
-      let h = and-true (standsIn (W x y) (z .0 .stage)) (samePort (cond (eqb x ((flowAt p (z .0 .flow)) .xd)) South East) South) (z .2) in
-      let turn = turns-any p b x y (z .0) (z .1) (rw (h .0) (to-south _ (h .1))) in
-      let k = any-true (north South) (b .lines) n in
-      let stays = to-south _ (and-true (standsIn (N x y) (k .0 .stage)) (samePort (cond (not (westTurns p b x y)) South East) South) (k .2) .1) in
-      false≢true (sym (ap not turn) ∙ stays)
 
-  -- one output carries one packet
-  pub one-output : Apart b → Queued b → (o : Port) → count (leavesBy p b x y o) (b .lines) ≤ 1
-  one-output apart q o =
-      let all = sources o in
-      let w = le-trans (count-mono (west o) (λ l. standsIn (W x y) (l .stage)) (b .lines) (λ l m t. and-true _ _ t .0)) (apart (W x y)) in
-      let n = le-trans (count-mono (north o) (λ l. standsIn (N x y) (l .stage)) (b .lines) (λ l m t. and-true _ _ t .0)) (apart (N x y)) in
-      let c = client-one o q in
-      elim (test (any (west o) (b .lines))) [
-        | inl some ↦ omega (
-          arith,
-          none-count (north o) (b .lines) (never (λ t. west-north o apart some t)),
-          none-count (client o) (b .lines) (never (λ t. west-client o some (client-open o t))),
-        )
-        | inr none ↦ elim (test (any (north o) (b .lines))) [
-          | inl other ↦ omega (
-            arith,
-            none-count (west o) (b .lines) none,
-            none-count (client o) (b .lines) (never (λ t. north-client o other (client-open o t))),
-          )
-          | inr no-other ↦ omega (arith, none-count (west o) (b .lines) none, none-count (north o) (b .lines) no-other)
-        ]
-      ]
+  -- the client's lines by this way out are those of the flow that enters there
+  entrants : (o : Way) → keep (comes o) (b .lines) ≡ entrantsOf p b o (entrant p (view p b) x y)
+  entrants o = by-entrant refl (found p (view p b) x y)
     where
-      never : {t : Bool} → (t ≡ true → ⊥) → t ≡ false
-      never {t} not-so = elim (test t) [ inl e ↦ absurd (not-so e) | inr e ↦ e ]
+      -- a line that comes is of that flow
+      is-flow : (l : Line) → Comer o l → isFlow (l .flow) (entrant p (view p b) x y) ≡ true
+      is-flow l h = sym (enters-at p (view p b) x y (l .flow) (h .client)) ∙ h .enters-now
+
+      by-entrant : {e : Option ℕ} → entrant p (view p b) x y ≡ e → Found p (view p b) x y e → keep (comes o) (b .lines) ≡ entrantsOf p b o e
+      by-entrant e (no-entrant low) =
+          keep-none (comes o) (b .lines) (λ l m. never (comes o l) (λ t. false≢true (sym (ap (isFlow (l .flow)) e) ∙ is-flow l (comer o l t))))
+      by-entrant e (has-entrant f h) =
+          elim (test (sameWay (wayIn p f) o)) [
+            | inl way ↦ rw way (keep-same (comes o) (λ l. ofFlow f l && goes p b l) (b .lines) (λ l m. same way l))
+            | inr way ↦ rw way (keep-none (comes o) (b .lines) (λ l m. never (comes o l) (λ t. other way l (comer o l t))))
+          ]
+        where
+          own : (l : Line) → Comer o l → f ≡ l .flow
+          own l t = eqb-true f (l .flow) (sym (ap (isFlow (l .flow)) e) ∙ is-flow l t)
+
+          other : sameWay (wayIn p f) o ≡ false → (l : Line) → Comer o l → ⊥
+          other way l t = false≢true (sym way ∙ ap (λ (u : Way). sameWay u o) (ap (wayIn p) (own l t) ∙ t .way) ∙ way-refl o)
+
+          same : sameWay (wayIn p f) o ≡ true → (l : Line) → comes o l ≡ ofFlow f l && goes p b l
+          same way l =
+              elim (ℕ-discrete (l .flow) f) [
+                | yes is ↦
+                    let at : isClient p x y f ≡ true = both-eqb x ((flowAt p f) .xs) y ((flowAt p f) .ys) (h .column) (h .row) in
+                    let so : isClient p x y (l .flow) && sameWay (wayIn p (l .flow)) o ≡ true
+                    = ap (λ (g : ℕ). isClient p x y g && sameWay (wayIn p g) o) is ∙ rw (at, way) in
+                    ap (λ (t : Bool). goes p b l && t) so ∙ rw (eq-eqb (l .flow) f is) (and-so (goes p b l))
+                | no other ↦ rw (ne-eqb (l .flow) f other) (never (comes o l) (λ t. other (sym (own l (comer o l t)))))
+              ]
+
+  module _ (apart : Apart b) where
+    from : (o : Way) (l : Line) → Mem l (b .lines) → Source o l (l .stage)
+    from o l m = source o l (l .stage) (λ at h. holds-own p b at apart l m h)
+
+    pub leaving : (o : Way) → outgoing p b x y o
+        ≡ cond (takes s (W x y) o) (linesIn b (W x y)) (cond (takes s (N x y) o) (linesIn b (N x y)) (entrantsOf p b o (entrant p (view p b) x y)))
+    leaving o =
+        elim (test (takes s (W x y) o)) [
+          | inl w ↦ rw w (keep-same _ _ (b .lines) (λ l m. west w l (from o l m)))
+          | inr w ↦ elim (test (takes s (N x y) o)) [
+            | inl n ↦ rw (w, n) (keep-same _ _ (b .lines) (λ l m. north w n l (from o l m)))
+            | inr n ↦ rw (w, n) (keep-same _ _ (b .lines) (λ l m. neither w n l (from o l m)) ∙ entrants o)
+          ]
+        ]
+      where
+        west : takes s (W x y) o ≡ true → (l : Line) → Source o l (l .stage) → leavesBy p b x y o l ≡ standsIn (W x y) (l .stage)
+        west w l (in-west h k c e) = e ∙ w ∙ sym h
+        west w l (in-north h k c e) = e ∙ north-yields s x y o w ∙ sym h
+        west w l (in-neither h k e) = e ∙ never (comes o l) (λ t. false≢true (sym (client-clear o l (comer o l t) .0) ∙ w)) ∙ sym h
+
+        north : takes s (W x y) o ≡ false → takes s (N x y) o ≡ true → (l : Line) → Source o l (l .stage) → leavesBy p b x y o l ≡ standsIn (N x y) (l .stage)
+        north w n l (in-west h k c e) = e ∙ w ∙ sym k
+        north w n l (in-north h k c e) = e ∙ n ∙ sym k
+        north w n l (in-neither h k e) = e ∙ never (comes o l) (λ t. false≢true (sym (client-clear o l (comer o l t) .1) ∙ n)) ∙ sym k
+
+        neither : takes s (W x y) o ≡ false → takes s (N x y) o ≡ false → (l : Line) → Source o l (l .stage) → leavesBy p b x y o l ≡ comes o l
+        neither w n l (in-west h k c e) = e ∙ w ∙ sym c
+        neither w n l (in-north h k c e) = e ∙ n ∙ sym c
+        neither w n l (in-neither h k e) = e
+
+    -- one way out carries one packet
+    pub one-output : Queued b → (o : Way) → length (outgoing p b x y o) ≤ 1
+    one-output q o =
+        rw (leaving o)
+        (elim (test (takes s (W x y) o)) [
+          | inl w ↦ rw (w, length-keep (λ l. standsIn (W x y) (l .stage)) (b .lines)) (apart (W x y))
+          | inr w ↦ elim (test (takes s (N x y) o)) [
+            | inl n ↦ rw (w, n, length-keep (λ l. standsIn (N x y) (l .stage)) (b .lines)) (apart (N x y))
+            | inr n ↦ rw (w, n) (few (entrant p (view p b) x y))
+          ]
+        ])
+      where
+        few : (e : Option ℕ) → length (entrantsOf p b o e) ≤ 1
+        few none = omega arith
+        few (some f) =
+            elim (test (sameWay (wayIn p f) o)) [
+              | inl t ↦ rw (t, length-keep (λ l. ofFlow f l && goes p b l) (b .lines), goes-count b q p f) (one-most (enters p b f))
+              | inr t ↦ rw t (omega arith)
+            ]

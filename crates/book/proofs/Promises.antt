@@ -10,26 +10,23 @@ use lib.ListN.{length}
 use Rattle.laws.specs.Count.{count}
 use Rattle.laws.proofs.Cases.{and-true}
 use Rattle.laws.proofs.Count.{mem-count, count-find, count-mono}
-use Rattle.flow.specs.Plan.{Plan, flowAt, FlowOk, PlanOk}
-use Rattle.bucket.proofs.Regulator.{fits}
+use Rattle.flow.specs.Plan.{Plan, flowAt, PlanOk}
 use Rattle.window.specs.declared.Window.the-variants.{At}
 use Rattle.window.specs.Window.{interference, windowOf}
 use Rattle.window.proofs.Windows.{window-least}
+use Rattle.router.specs.Delivery.{Delivery}
 use Rattle.book.specs.Line.{Stage, waiting, placed, left, Line, isWaiting, isLeft, entryOf}
-use Rattle.book.specs.Book.{Book, bucketAt, ofFlow, enteredOf}
-use Rattle.book.specs.Cycle.{Delivery, deliveryOf}
+use Rattle.book.specs.Book.{Book, ofFlow}
+use Rattle.book.specs.Cycle.{deliveryOf}
 use Rattle.book.specs.Calls.{Call, run}
-use Rattle.book.specs.Promises.{deadline, EntersBy, sameWords, delivers, InState, FlowInState, Promises}
-use Rattle.book.proofs.Path.{Sound, entered-before}
-use Rattle.book.proofs.Entries.{lowest-enters}
-use Rattle.book.proofs.Queue.{entered-within, serial-range, serial-once}
+use Rattle.book.specs.Promises.{deadline, EntersBy, sameWords, delivers, Promises}
+use Rattle.book.proofs.Queue.{Queued, serial-range, serial-once}
 use Rattle.book.proofs.Traced.{line-ok}
 use Rattle.book.proofs.Spans.{Lawful}
-use Rattle.book.proofs.Outputs.{one-output}
 use Rattle.book.proofs.Pace.{Pace, waiting-due}
 use Rattle.book.proofs.Deliveries.{gone}
 use Rattle.book.proofs.Kept.{Kept, kept-run, delivered-run}
-use Rattle.book.proofs.State.{sound-in-place, sound-flies, sound-deflections}
+use Rattle.book.proofs.State.{sound-flies, sound-deflections}
 
 module _ (p : Plan) (b : Book) (k : Kept p b) where
   abbrev law : Lawful p b
@@ -61,27 +58,6 @@ module _ (p : Plan) (b : Book) (k : Kept p b) where
       by-stage waiting w d = w refl
       by-stage (placed e at) w d = d refl
       by-stage (left e t x y) w d = d refl
-
-  pub in-state : (l : Line) → Mem l (b .lines) → InState p b l (l .stage)
-  in-state l m = by-stage (l .stage) (law .traced .sound l m) (entered-within b (law .queued) l m)
-    where
-      okl : FlowOk (p .sx) (p .sy) (flowAt p (l .flow))
-      okl = line-ok p (law .plan) b (law .traced) l m
-
-      by-stage : (s : Stage) → Sound p (flowAt p (l .flow)) (b .clock) (l .D) s → (isWaiting s ≡ false → l .serial ≤ enteredOf b (l .flow))
-          → InState p b l s
-      by-stage waiting h w = tt
-      by-stage (placed e at) h w = (
-        serial-range b (law .queued) l m .0,
-        w refl,
-        entered-before p _ okl (b .clock) (l .D) (placed e at) h refl,
-        sound-in-place p _ okl (b .clock) (l .D) e at h,
-      )
-      by-stage (left e t x y) h w = tt
-
-  pub flow-in-state : (f : ℕ) → f < length (p .flows) → FlowInState p b f
-  flow-in-state f l =
-      record { bucket-fits = fits _ _ (bucketAt b f) (b .clock) _ (law .regulated f l); waiting-most = k .waiting-most f; entered-most = k .entered-most f }
 
   -- what has left was delivered, and the other way round, whatever is asked of a delivery
   module _ (ds : List Delivery) (told : (r : Delivery → Bool) → count (gone r) (b .lines) ≡ count r ds) where
@@ -127,21 +103,19 @@ module _ (p : Plan) (b : Book) (k : Kept p b) where
     kept-promises =
         record {
           enters-by = enters-in-time;
-          deflections-most = λ l m. sound-deflections p _ (line-ok p (law .plan) b (law .traced) l m) (b .clock) (l .D) (l .stage) (law .traced .sound l m);
-          flies = λ l m. sound-flies p _ (line-ok p (law .plan) b (law .traced) l m) (b .clock) (l .D) (l .stage) (law .traced .sound l m);
+          deflections-most = λ l m.
+              sound-deflections p _ (line-ok p (law .plan) b (law .traced) l m) (b .clock) (l .D) (l .stage) (law .traced .sound l m);
+          flies = λ l m.
+              sound-flies p _ (line-ok p (law .plan) b (law .traced) l m) (b .clock) (l .D) (l .stage) (law .traced .sound l m);
           delivered-once = once;
           delivered-only = only;
           apart = k .apart;
-          one-output = λ x y o. one-output p b x y (k .apart) (law .queued) o;
-          lowest-enters = lowest-enters p b;
-          known = law .traced .known;
-          numbered = law .queued .numbered;
-          entered-first = law .queued .entered-first;
-          clock-most = k .clock-most;
-          flow-in-state = flow-in-state;
-          in-state = in-state;
         }
 
 -- the packet book keeps its promises
 pub promises : (p : Plan) → PlanOk p → (calls : List Call) → Promises p (run p calls .book) (run p calls .delivered)
 promises p ok calls = kept-promises p (run p calls .book) (kept-run p ok calls) (run p calls .delivered) (λ r. delivered-run p ok r calls)
+
+-- a flow's serials are 1..n in the order of its offers, the entered ones first
+pub numbered : (p : Plan) → PlanOk p → (calls : List Call) → Queued (run p calls .book)
+numbered p ok calls = kept-run p ok calls .lawful .queued

@@ -1,7 +1,7 @@
 -- A flow's queue: its serials are 1..n in the order of its offers, the entered ones first; so the waiting line of lowest
 -- serial has the serial entered + 1, and one line enters where its flow does. Rests on Moves.
 use mathlib.Core.Bool.{Bool, true, false, not, _&&_, and-false}
-use mathlib.Core.List.{List, [], _∷_, _++_, map, append-nil, List·Memᴰ as Mem}
+use mathlib.Core.List.{[], _∷_, _++_, map, map-append, map-map, append-nil, List·Memᴰ as Mem}
 use mathlib.Core.Logic.{_⊎_, inl, inr, _≢_}
 use mathlib.Core.Path.{_≡_, refl, sym, ap, _∙_}
 use Prim.Native.Nat.{ℕ, zero, suc, _+_, _≤_, _<_}
@@ -14,12 +14,14 @@ use Rattle.laws.specs.Bounded.{tabulate}
 use Rattle.laws.specs.Count.{one, count, any, keep}
 use Rattle.laws.proofs.Cases.{test, and-true}
 use Rattle.laws.proofs.Bounded.{tabulate-more}
-use Rattle.laws.proofs.Count.{mem-map, mem-snoc, any-true, any-mem, mem-count, count-find, count-append, count-map, count-same, count-sum, count-none, count-mono, count-keep}
+use Rattle.laws.proofs.Count.{mem-map, mem-snoc, any-true, any-mem, mem-count, count-find}
+use Rattle.laws.proofs.Count.{count-append, count-map, count-same, count-sum, count-none, count-keep}
+use Rattle.laws.proofs.Keep.{keep-append, keep-map}
 use Rattle.flow.specs.Plan.{Plan}
+use Rattle.router.proofs.Entrant.{entering-ready}
 use Rattle.book.specs.Line.{Line, isWaiting}
 use Rattle.book.specs.Book.{Book, ofFlow, waitsFor, enteredFor, totalOf, waitingOf, enteredOf, offered, offeredLine}
-use Rattle.book.specs.Cycle.{enters, lowest, move, stepped}
-use Rattle.book.proofs.Entries.{entering-ready}
+use Rattle.book.specs.Cycle.{view, enters, lowest, move, stepped}
 use Rattle.book.proofs.Moves.{goes, Turn, keeps, stays, comes, turn, goes-enters}
 
 abbrev serialOf : Line → ℕ
@@ -148,7 +150,7 @@ module _ (b : Book) (q : Queued b) where
     goes-count f =
         elim (test (enters p b f)) [
           | inl en ↦
-              let head = any-true (waitsFor f) (b .lines) (entering-ready p b f en .waits) in
+              let head = any-true (waitsFor f) (b .lines) (entering-ready p (view p b) f en .waits) in
               let waits = and-true _ _ (head .2) in
               let same = eqb-true (head .0 .flow) f (waits .0) in
               let past = waits-past (head .0) (head .1) (waits .1) in
@@ -180,22 +182,22 @@ module _ (b : Book) (q : Queued b) where
         ∙ count-sum (λ l. enteredFor f (move p b l)) (enteredFor f) (λ l. ofFlow f l && goes p b l) (b .lines) (λ l m. sums (ofFlow f l) l (turn p b l))
         ∙ ap (λ (n : ℕ). enteredOf b f + n) (goes-count f)
       where
-        sums : (s : Bool) (l : Line) → Turn p b l → one (s && not (isWaiting ((move p b l) .stage))) ≡ one (s && not (isWaiting (l .stage))) + one (s && goes p b l)
+        sums : (s : Bool) (l : Line) → Turn p b l
+            → one (s && not (isWaiting ((move p b l) .stage))) ≡ one (s && not (isWaiting (l .stage))) + one (s && goes p b l)
         sums false l t = refl
         sums true l (keeps w w′ e g) = rw (g, w, w′)
         sums true l (stays w w′ g) = rw (g, w, w′)
         sums true l (comes w w′ e g) = rw (g, w, w′)
 
-    serials-step : (f : ℕ) (ls : List Line) → map serialOf (keep (ofFlow f) (map (move p b) ls)) ≡ map serialOf (keep (ofFlow f) ls)
-    serials-step f [] = refl
-    serials-step f (l ∷ ls) =
-        elim (test (ofFlow f l)) [ inl e ↦ rw e (ap (λ (ns : List ℕ). l .serial ∷ ns) (serials-step f ls)) | inr e ↦ rw e (serials-step f ls) ]
-
     -- a step keeps the queue
     pub queued-step : Queued (stepped p b)
     queued-step =
         record {
-          numbered = λ f. serials-step f (b .lines) ∙ q .numbered f ∙ ap (λ (n : ℕ). tabulate n (λ i. i + 1)) (sym (count-map (ofFlow f) (move p b) (b .lines)));
+          numbered = λ f.
+              ap (map serialOf) (keep-map (ofFlow f) (move p b) (b .lines))
+              ∙ map-map serialOf (move p b) (keep (ofFlow f) (b .lines))
+              ∙ q .numbered f
+              ∙ ap (λ (n : ℕ). tabulate n (λ i. i + 1)) (sym (count-map (ofFlow f) (move p b) (b .lines)));
           entered-first = λ l m. let k = mem-map (b .lines) m in rw (k .2) (first (k .0) (k .1) (turn p b (k .0)));
         }
       where
@@ -223,31 +225,20 @@ module _ (b : Book) (q : Queued b) where
   pub queued-offer : (f : ℕ) → Queued (offered b f)
   queued-offer f =
       record {
-        numbered = λ g. serials-more g (b .lines) ∙ more g;
+        numbered = λ g.
+            ap (map serialOf) (keep-append (ofFlow g) (b .lines) (new′ ∷ []))
+            ∙ map-append serialOf (keep (ofFlow g) (b .lines)) (keep (ofFlow g) (new′ ∷ []))
+            ∙ more g;
         entered-first = λ l m. elim (mem-snoc (b .lines) m) [
-          | inl old ↦ rw (same (l .flow)) (q .entered-first l old)
-          | inr new ↦ rw (new, same f, lt-ltb (enteredOf b f) (totalOf b f + 1) (omega (arith, within)))
+          | inl old ↦ rw (entered-offer b f (l .flow)) (q .entered-first l old)
+          | inr new ↦ rw (new, entered-offer b f f, lt-ltb (enteredOf b f) (totalOf b f + 1) (omega (arith, total-split b f)))
         ];
       }
     where
       new′ : Line
       new′ = offeredLine b f
 
-      same : (g : ℕ) → enteredOf (offered b f) g ≡ enteredOf b g
-      same g = entered-offer b f g
-
-      within : enteredOf b f ≤ totalOf b f
-      within = count-mono (enteredFor f) (ofFlow f) (b .lines) (λ l m e. and-true _ _ e .0)
-
-      serials : (g : ℕ) → List Line → List ℕ
-      serials g ls = map serialOf (keep (ofFlow g) ls)
-
-      serials-more : (g : ℕ) (ls : List Line) → serials g (ls ++ (new′ ∷ [])) ≡ serials g ls ++ serials g (new′ ∷ [])
-      serials-more g [] = refl
-      serials-more g (l ∷ ls) =
-          elim (test (ofFlow g l)) [ inl e ↦ rw e (ap (λ (ns : List ℕ). l .serial ∷ ns) (serials-more g ls)) | inr e ↦ rw e (serials-more g ls) ]
-
-      more : (g : ℕ) → serials g (b .lines) ++ serials g (new′ ∷ []) ≡ tabulate (totalOf (offered b f) g) (λ i. i + 1)
+      more : (g : ℕ) → map serialOf (keep (ofFlow g) (b .lines)) ++ map serialOf (keep (ofFlow g) (new′ ∷ [])) ≡ tabulate (totalOf (offered b f) g) (λ i. i + 1)
       more g =
           rw (q .numbered g, count-append (ofFlow g) (b .lines) (new′ ∷ []))
           (elim (ℕ-discrete f g) [

@@ -6,7 +6,7 @@ use mathlib.Core.Path.{_≡_, refl, ap, _∙_}
 use Prim.Native.Nat.{ℕ, _+_, _≤_, _<_}
 use native.Mathlib.Decide.{decLe}
 use native.Mathlib.Omega.{arith}
-use borrow.Author.Tests.{lt-ltb, le-ltb, le-leb, lt-leb}
+use borrow.Author.Tests.{lt-ltb, le-ltb, ltb-true, le-leb, lt-leb}
 use lib.Dec.{ltb, leb}
 use lib.ListN.{length}
 use Rattle.laws.specs.Bounded.{tabulate}
@@ -16,10 +16,10 @@ use Rattle.laws.proofs.Count.{count-append, count-map, count-same, count-sum, c
 use Rattle.flow.specs.Plan.{Plan, flowAt, PlanOk}
 use Rattle.bucket.specs.Regulator.{fullBucket, afterCycle}
 use Rattle.bucket.proofs.Regulator.{Regulated, reset, cycle, recount}
+use Rattle.router.proofs.Entrant.{entering-ready}
 use Rattle.book.specs.Line.{Stage, Line, isWaiting, entryOf}
 use Rattle.book.specs.Book.{Book, bucketAt, ofFlow, start, offered, offeredLine}
-use Rattle.book.specs.Cycle.{enters, move, stepped}
-use Rattle.book.proofs.Entries.{entering-ready}
+use Rattle.book.specs.Cycle.{view, enters, move, stepped}
 use Rattle.book.proofs.Moves.{goes, Turn, keeps, stays, comes, turn}
 use Rattle.book.proofs.Queue.{Queued, queued-step, queued-offer, goes-count}
 use Rattle.book.proofs.Traced.{Traced, traced-step, traced-offer, entry-before}
@@ -119,6 +119,9 @@ module _ (p : Plan) (b : Book) (law : Lawful p b) where
       new true k m (stays w w′ g) = rw (g, w, w′)
       new true k m (comes w w′ e g) = rw (g, w, w′, e, le-leb a (b .clock) l, lt-ltb (b .clock) (b .clock + 1) (omega arith))
 
+  token : (f : ℕ) → enters p b f ≡ true → 1 ≤ (bucketAt b f) .tokens
+  token f e = ltb-true 0 ((bucketAt b f) .tokens) (entering-ready p (view p b) f e .token)
+
   pub lawful-step : Lawful p (stepped p b)
   lawful-step =
       record {
@@ -127,6 +130,6 @@ module _ (p : Plan) (b : Book) (law : Lawful p b) where
         queued = queued-step b (law .queued) p;
         regulated = λ f l.
             rw (bucket-step p b f l)
-            (cycle _ _ (bucketAt b f) (b .clock) (span b f) (law .regulated f l) (enters p b f) (λ e. entering-ready p b f e .token) (span (stepped p b) f)
+            (cycle _ _ (bucketAt b f) (b .clock) (span b f) (law .regulated f l) (enters p b f) (token f) (span (stepped p b) f)
             (span-old f) (span-new f) (span-none (stepped p b) f (b .clock + 1)));
       }

@@ -1,72 +1,66 @@
--- What a sound line promises: its place is one of 01's for a state, its flight is exact, and its D is at most ΔY. Rests on Path.
+-- What the book keeps is what 01 asks of words that form a state and of a flight: a line's place, its flight and its D, and each flow's
+-- bucket. Rests on Kept and the router's Path.
 use mathlib.Core.Bool.{true}
+use mathlib.Core.List.{List·Memᴰ as Mem}
 use mathlib.Core.Logic.{inl, inr}
-use mathlib.Core.Path.{_≡_, ap, _∙_}
-use Prim.Native.Nat.{ℕ, _+_, _-_, _*_, _≤_}
+use mathlib.Core.Path.{_≡_}
+use Prim.Native.Nat.{ℕ, _+_, _-_, _≤_, _<_}
 use native.Mathlib.Omega.{arith}
-use borrow.Author.Tests.{le-leb, eq-eqb, ne-eqb}
-use Rattle.torus.specs.Axis.{offset, lap}
-use Rattle.torus.proofs.Axis.{offset-same, lap-most}
+use lib.ListN.{length}
+use Rattle.torus.proofs.Axis.{lap-most}
 use Rattle.flow.specs.declared.Flow.{Flow}
-use Rattle.flow.specs.Offsets.{ΔX, ΔY}
-use Rattle.flow.specs.Plan.{Plan, FlowOk}
+use Rattle.flow.specs.Plan.{Plan, flowAt, FlowOk}
+use Rattle.bucket.specs.Regulator.{bucketFits}
+use Rattle.bucket.proofs.Regulator.{fits}
 use Rattle.window.specs.Flight.{travel, mostDeflections}
 use Rattle.place.specs.Place.{Place, W, N}
-use Rattle.book.specs.Line.{Stage, waiting, placed, left}
-use Rattle.place.specs.InPlace.{rowsDone, inPlace}
+use Rattle.place.specs.InPlace.{inPlace}
+use Rattle.router.proofs.Path.{OnPath, placed-on, entered-before}
+use Rattle.router.proofs.InPlace.{path-in-place}
+use Rattle.book.specs.Line.{Stage, waiting, placed, left, Line, standsIn, entryOf}
+use Rattle.book.specs.Book.{Book, bucketAt, enteredOf}
 use Rattle.book.specs.Promises.{Flies}
-use Rattle.book.proofs.Path.{Sound, placed-on}
+use Rattle.book.proofs.Queue.{entered-within, serial-range}
+use Rattle.book.proofs.Traced.{Sound, stands-entered, stands-path, line-ok}
+use Rattle.book.proofs.Kept.{Kept}
 
 module _ (p : Plan) (f : Flow) (ok : FlowOk (p .sx) (p .sy) f) (c D : ℕ) where
-  abbrev r : ℕ → ℕ
-  r y = rowsDone (p .sy) f y
-
-  pub sound-in-place : (e : ℕ) (at : Place) → Sound p f c D (placed e at) → inPlace (p .sx) (p .sy) f at D (c - e) ≡ true
-  unfolding inPlace
-  sound-in-place e (N x y) h =
-      rw (
-        le-leb 1 (c - e) (omega (arith, h .time, h .least)),
-        eq-eqb x (f .xd) (h .column),
-        le-leb 1 (r y) (h .least),
-        le-leb (r y) (ΔY (p .sy) f) (h .most),
-        le-leb D (r y - 1) (omega (arith, h .few)),
-        eq-eqb (c - e) (ΔX (p .sx) f + r y + D * p .sx) (omega (arith, h .time)),
-      )
-  sound-in-place e (W x y) (inl h) =
-      let j : ℕ = offset (p .sx) (f .xs) x in
-      rw (
-        le-leb 1 (c - e) (omega (arith, h .time, h .least)),
-        eq-eqb (r y) 0 (ap r (h .row) ∙ offset-same (p .sy) (f .ys) (ok .ys-on)),
-        le-leb 1 j (h .least),
-        le-leb j (ΔX (p .sx) f) (h .most),
-        eq-eqb D 0 (h .none),
-        eq-eqb (c - e) j (omega (arith, h .time)),
-      )
-  sound-in-place e (W x y) (inr h) =
-      let k : ℕ = lap (p .sx) (f .xd) x in
-      let split : D * p .sx ≡ (D - 1 + 1) * p .sx = ap (λ (d : ℕ). d * p .sx) (omega (arith, h .some)) in
-      rw (
-        le-leb 1 (c - e) (omega (arith, h .time, h .least)),
-        ne-eqb (r y) 0 (omega (arith, h .least)),
-        le-leb (r y) (ΔY (p .sy) f) (h .most),
-        le-leb 1 D (h .some),
-        le-leb D (r y) (h .few),
-        eq-eqb (c - e) (ΔX (p .sx) f + r y + (D - 1) * p .sx + k) (omega (arith, h .time)),
-      )
-
   pub sound-flies : (s : Stage) → Sound p f c D s → Flies p f D c s
   sound-flies waiting h = tt
   sound-flies (placed e at) h = (placed-on p f ok c D e at h, in-time at h)
     where
-      in-time : (at : Place) → Sound p f c D (placed e at) → c ≤ e + travel (p .sx) (p .sy) f D
+      in-time : (at : Place) → OnPath p f c D e at → c ≤ e + travel (p .sx) (p .sy) f D
       in-time (N x y) h = omega (arith, h .time, h .most)
       in-time (W x y) (inl h) = omega (arith, h .time, h .most)
       in-time (W x y) (inr h) = omega (arith, h .time, h .most, lap-most (p .sx) (f .xd) x (ok .xd-on) (h .column))
-  sound-flies (left e t x y) h = (h .column, h .row, h .time)
+  sound-flies (left e t x y) h = (h .out .column, h .out .row, h .out .time)
 
   pub sound-deflections : (s : Stage) → Sound p f c D s → D ≤ mostDeflections (p .sx) (p .sy) f
   sound-deflections waiting h = omega arith
   sound-deflections (placed e (N x y)) h = omega (arith, h .few, h .most)
   sound-deflections (placed e (W x y)) (inl h) = omega (arith, h .none)
   sound-deflections (placed e (W x y)) (inr h) = omega (arith, h .few, h .most)
-  sound-deflections (left e t x y) h = h .few
+  sound-deflections (left e t x y) h = h .out .few
+
+-- the packet of a line in this register, as words that form a state have it
+pub record InRegister (p : Plan) (b : Book) (l : Line) (at : Place) : Type 0 where
+  pub least : 1 ≤ l .serial
+  pub most : l .serial ≤ enteredOf b (l .flow)
+  pub before : entryOf (l .stage) < b .clock
+  pub in-place : inPlace (p .sx) (p .sy) (flowAt p (l .flow)) at (l .D) (b .clock - entryOf (l .stage)) ≡ true
+
+module _ (p : Plan) (b : Book) (k : Kept p b) where
+  pub bucket-fits : (f : ℕ) → f < length (p .flows) → bucketFits ((flowAt p f) .burst) ((flowAt p f) .period) (bucketAt b f) ≡ true
+  bucket-fits f l = fits _ _ (bucketAt b f) (b .clock) _ (k .lawful .regulated f l)
+
+  pub in-register : (l : Line) → Mem l (b .lines) → (at : Place) → standsIn at (l .stage) ≡ true → InRegister p b l at
+  in-register l m at h =
+      let law = k .lawful in
+      let φ = flowAt p (l .flow) in
+      let path = stands-path p φ (b .clock) (l .D) at (l .stage) (law .traced .sound l m) h in
+      record {
+        least = serial-range b (law .queued) l m .0;
+        most = entered-within b (law .queued) l m (stands-entered at (l .stage) h);
+        before = entered-before p φ (line-ok p (law .plan) b (law .traced) l m) (b .clock) (l .D) (entryOf (l .stage)) at path;
+        in-place = path-in-place p φ (line-ok p (law .plan) b (law .traced) l m) (b .clock) (l .D) (entryOf (l .stage)) at path;
+      }

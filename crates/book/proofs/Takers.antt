@@ -1,5 +1,5 @@
 -- Who keeps a flow from entering: a packet that takes its port, or a line of its client that enters. It passes f in that step and
--- had not passed before. Rests on Path, Entries and Meetings.
+-- had not passed before. Rests on Traced, Meetings and the router's Path.
 use mathlib.Core.Bool.{Bool, true, false, not, _&&_}
 use mathlib.Core.Logic.{inl, inr, _≢_}
 use mathlib.Core.Path.{_≡_, refl, sym, ap, _∙_}
@@ -8,38 +8,33 @@ use native.Mathlib.Nat.{mul-le-mul-right}
 use native.Mathlib.Omega.{arith}
 use borrow.Author.Tests.{le-leb, eq-eqb, ne-eqb}
 use lib.Dec.{ltb}
-use Rattle.laws.proofs.Cases.{test}
+use Rattle.laws.proofs.Cases.{test, eqb-both}
 use Rattle.torus.specs.Axis.{offset, lap}
 use Rattle.torus.proofs.Axis.{offset-same}
 use Rattle.flow.specs.declared.Flow.{Flow}
-use Rattle.flow.specs.declared.Port.{Port}
-use Rattle.flow.specs.declared.Port.the-variants.{East, South}
+use Rattle.flow.specs.declared.Port.the-variants.{South}
 use Rattle.flow.specs.Offsets.{ΔX, ΔY, portOf, sameClient}
 use Rattle.flow.specs.Plan.{Plan, flowAt, FlowOk}
 use Rattle.window.specs.Conflict.{rowsTo, columnsTo}
 use Rattle.place.specs.Place.{Place, W, N, columnOf, rowOf}
+use Rattle.place.specs.InPlace.{rowsDone}
+use Rattle.router.specs.Rule.{Seen, turnsSouth, Way, wayBy, wayFrom}
+use Rattle.router.proofs.Rule.{Closes}
+use Rattle.router.proofs.Path.{OnPath, progressBy, progress-row, placed-south, along-first, along-later, step-placed}
+use Rattle.router.proofs.Path as Path
 use Rattle.book.specs.Line.{Stage, waiting, placed, left, Line, isWaiting, entryOf}
 use Rattle.book.specs.Book.{Book}
-use Rattle.book.specs.Cycle.{westTurns, output, enters, lowest, sent}
-use Rattle.place.specs.InPlace.{rowsDone}
-use Rattle.book.proofs.Path.{Sound, progress, progress-row, placed-south, along-first, along-later, step-placed}
-use Rattle.book.proofs.Path
-use Rattle.book.proofs.Entries.{client-parts}
+use Rattle.book.specs.Cycle.{seen, enters, lowest, sent}
 use Rattle.book.proofs.Moves.{sent-waits, sent-entry}
+use Rattle.book.proofs.Traced.{progress, sent-progress}
 use Rattle.book.proofs.Meetings.{meets, meeting, passedBy, passed-yes, passed-no}
-
--- a packet in a register of f's router takes f's port: E if it is in W, S if it goes there
-abbrev TakesPort : Plan → Book → Flow → Place → Port → Type 0
-TakesPort p b g (W x y) East = Unit {0}
-TakesPort p b g (N x y) East = ⊥
-TakesPort p b g (W x y) South = x ≡ g .xd
-TakesPort p b g (N x y) South = westTurns p b x y ≡ false
 
 -- the line z, of another flow, keeps flow f from entering
 abbrev pub Takes : Plan → Book → ℕ → Line → Stage → Type 0
 Takes p b f z waiting = (enters p b (z .flow) && lowest b z ≡ true) × (sameClient (flowAt p f) (flowAt p (z .flow)) ≡ true) × (z .flow ≢ f)
 Takes p b f z (placed e at) =
-    (columnOf at ≡ (flowAt p f) .xs) × (rowOf at ≡ (flowAt p f) .ys) × TakesPort p b (flowAt p (z .flow)) at (portOf (p .sx) (flowAt p f))
+    (columnOf at ≡ (flowAt p f) .xs) × (rowOf at ≡ (flowAt p f) .ys)
+    × Closes (seen p b (columnOf at) (rowOf at)) (flowAt p (z .flow)) at (portOf (p .sx) (flowAt p f))
 Takes p b f z (left e t x y) = ⊥
 
 -- a stage with an entry has passed f
@@ -70,14 +65,14 @@ module _ (p : Plan) (f g : Flow) (ok : FlowOk (p .sx) (p .sy) g) where
   k = lap (p .sx) (g .xd) (f .xs)
 
   -- a packet is never in a register of its own source's router
-  pub away : (c D e : ℕ) (at : Place) → columnOf at ≡ f .xs → rowOf at ≡ f .ys → Sound p g c D (placed e at) → sameClient f g ≡ false
+  pub away : (c D e : ℕ) (at : Place) → columnOf at ≡ f .xs → rowOf at ≡ f .ys → OnPath p g c D e at → sameClient f g ≡ false
   away c D e at x y h =
       elim (test (sameClient f g)) [
         | inr other ↦ other
-        | inl same ↦ let home = client-parts f g same in absurd (not-home at h (x ∙ home .0) (y ∙ home .1))
+        | inl same ↦ let home = eqb-both (f .xs) (g .xs) (f .ys) (g .ys) same in absurd (not-home at h (x ∙ home .0) (y ∙ home .1))
       ]
     where
-      not-home : (at : Place) → Sound p g c D (placed e at) → columnOf at ≡ g .xs → rowOf at ≡ g .ys → ⊥
+      not-home : (at : Place) → OnPath p g c D e at → columnOf at ≡ g .xs → rowOf at ≡ g .ys → ⊥
       not-home (N x y) h a b = omega (arith, h .least, ap (offset (p .sy) (g .ys)) b, offset-same (p .sy) (g .ys) (ok .ys-on))
       not-home (W x y) (inl h) a b = omega (arith, h .least, ap (offset sx (g .xs)) a, offset-same sx (g .xs) (ok .xs-on))
       not-home (W x y) (inr h) a b = omega (arith, h .least, ap (offset (p .sy) (g .ys)) b, offset-same (p .sy) (g .ys) (ok .ys-on))
@@ -98,20 +93,22 @@ module _ (p : Plan) (f g : Flow) (ok : FlowOk (p .sx) (p .sy) g) where
   meets-south other south column most = rw (other, south, eq-eqb (g .xd) (f .xs) (sym column), le-leb r (ΔY (p .sy) g) most)
 
   -- in cycle c the packet is at its meeting with f, and output o takes it past the point
-  record AtMeeting (K J point c e : ℕ) (at : Place) (o : Port) : Type 0 where
+  record AtMeeting (K J point c e : ℕ) (at : Place) (o : Way) : Type 0 where
     is : meeting sx (p .sy) f g ≡ meets K J point
     late : c ≤ e + K + J
     early : e + K ≤ c
-    short : progress p g (placed e at) ≤ point
-    past : point < progress p g (sent p g c e (columnOf at) (rowOf at) o)
+    short : Path.progress p g at ≤ point
+    past : point < progressBy p g (columnOf at) (rowOf at) o
 
-  module _ (b : Book) (s c D e : ℕ) (now : s ≤ c) where
-    passes-at : (K J point : ℕ) (at : Place) (o : Port) → AtMeeting K J point c e at o → Passes p f g s c (placed e at) (sent p g c e (columnOf at) (rowOf at) o)
+  module _ (v : Seen) (s c D e : ℕ) (now : s ≤ c) where
+    passes-at : (K J point : ℕ) (at : Place) (o : Way) → AtMeeting K J point c e at o → Passes p f g s c (placed e at) (sent p c e (columnOf at) (rowOf at) o)
     passes-at K J point at o h =
+        let x = columnOf at in
+        let y = rowOf at in
         record {
-          before = rw (h .is) (passed-no K J point s c e (progress p g (placed e at)) (h .short));
+          before = rw (h .is) (passed-no K J point s c e (Path.progress p g at) (h .short));
           after =
-              rw (h .is, sent-waits p g c e (columnOf at) (rowOf at) o, sent-entry p g c e (columnOf at) (rowOf at) o)
+              rw (h .is, sent-waits p c e x y o, sent-entry p c e x y o, sent-progress p g c e x y o)
               (passed-yes K J point s (c + 1) e _ (omega (arith, h .late)) (omega (arith, h .early)) (h .past));
         }
 
@@ -119,43 +116,43 @@ module _ (p : Plan) (f g : Flow) (ok : FlowOk (p .sx) (p .sy) g) where
     abbrev here : Place
     here = W (f .xs) (f .ys)
 
-    west : eastward ≡ true → Sound p g c D (placed e here) → Passes p f g s c (placed e here) (sent p g c e (f .xs) (f .ys) (output p b g here))
+    west : eastward ≡ true → OnPath p g c D e here → Passes p f g s c (placed e here) (sent p c e (f .xs) (f .ys) (wayFrom v here g))
     west east (inl h) =
         let row : r ≡ 0 = ap (offset (p .sy) (g .ys)) (h .row) ∙ offset-same (p .sy) (g .ys) (ok .ys-on) in
         let rows : r * suc sx ≡ 0 * suc sx = ap (λ (n : ℕ). n * suc sx) row in
         let come = along-first p g (f .xs) (f .ys) row in
-        passes-at j 0 j here (output p b g here)
+        passes-at j 0 j here (wayFrom v here g)
         (record {
           is = meets-first (away c D e here refl refl (inl h)) east row (h .least) (h .most);
           late = omega (arith, h .time);
           early = omega (arith, h .time);
           short = omega arith;
-          past = omega (arith, step-placed p g ok b c D e here (inl h) .rises);
+          past = omega (arith, step-placed p g ok v c D e here (inl h) .rises);
         })
     west east (inr h) =
         let come = along-later p g (f .xs) (f .ys) (h .least) in
         let most = mul-le-mul-right sx (h .few) in
         let least = mul-le-mul-right sx (h .some) in
         let split : r * sx ≡ (r - 1 + 1) * sx = ap (λ (n : ℕ). n * sx) (omega (arith, h .least)) in
-        passes-at (ΔX sx g + r + k) ((r - 1) * sx) (r * suc sx + k) here (output p b g here)
+        passes-at (ΔX sx g + r + k) ((r - 1) * sx) (r * suc sx + k) here (wayFrom v here g)
         (record {
           is = meets-later (away c D e here refl refl (inr h)) east (h .least) (h .most);
           late = omega (arith, h .time);
           early = omega (arith, h .time);
           short = omega arith;
-          past = omega (arith, step-placed p g ok b c D e here (inr h) .rises);
+          past = omega (arith, step-placed p g ok v c D e here (inr h) .rises);
         })
 
     -- f's port is S and the packet goes there
-    down : (at : Place) → columnOf at ≡ f .xs → rowOf at ≡ f .ys → eastward ≡ false → columnOf at ≡ g .xd → Sound p g c D (placed e at)
-        → Passes p f g s c (placed e at) (sent p g c e (columnOf at) (rowOf at) South)
+    down : (at : Place) → columnOf at ≡ f .xs → rowOf at ≡ f .ys → eastward ≡ false → columnOf at ≡ g .xd → OnPath p g c D e at
+        → Passes p f g s c (placed e at) (sent p c e (columnOf at) (rowOf at) (wayBy (columnOf at) (rowOf at) g South))
     down at x y south turn h =
         let go = placed-south p g ok c D e at h turn in
         let most = mul-le-mul-right sx (go .few) in
         let row : rowsDone (p .sy) g (rowOf at) ≡ r = ap (offset (p .sy) (g .ys)) y in
         let rows = ap (λ (n : ℕ). n * suc sx) row in
         let cols = ap (λ (n : ℕ). n * sx) row in
-        passes-at (ΔX sx g + r) (r * sx) (r * suc sx + sx) at South
+        passes-at (ΔX sx g + r) (r * sx) (r * suc sx + sx) at (wayBy (columnOf at) (rowOf at) g South)
         (record {
           is = meets-south (away c D e at x y h) south (sym x ∙ turn) (omega (arith, go .most));
           late = omega (arith, go .time);
@@ -165,8 +162,8 @@ module _ (p : Plan) (f g : Flow) (ok : FlowOk (p .sx) (p .sy) g) where
         })
 
     -- either port
-    pub placed-passes : (at : Place) → columnOf at ≡ f .xs → rowOf at ≡ f .ys → TakesPort p b g at (portOf sx f) → Sound p g c D (placed e at)
-        → Passes p f g s c (placed e at) (sent p g c e (columnOf at) (rowOf at) (output p b g at))
+    pub placed-passes : (at : Place) → columnOf at ≡ f .xs → rowOf at ≡ f .ys → Closes v g at (portOf sx f) → OnPath p g c D e at
+        → Passes p f g s c (placed e at) (sent p c e (columnOf at) (rowOf at) (wayFrom v at g))
     placed-passes (W x y) xe ye t h =
         elim (test eastward) [
           | inl east ↦ rw (xe, ye) (west east (rw (xe, ye) at h))
@@ -175,5 +172,5 @@ module _ (p : Plan) (f g : Flow) (ok : FlowOk (p .sx) (p .sy) g) where
     placed-passes (N x y) xe ye t h =
         elim (test eastward) [
           | inl east ↦ absurd (rw east at t)
-          | inr south ↦ let clear : westTurns p b x y ≡ false = rw south at t in rw clear (down (N x y) xe ye south (h .column) h)
+          | inr south ↦ let clear : turnsSouth x (v .west) ≡ false = rw south at t in rw clear (down (N x y) xe ye south (h .column) h)
         ]

@@ -7,7 +7,8 @@ use Rattle.flow.specs.Limits.{offerNumber, stepNumber}
 use Rattle.plan.specs.declared.Answer.{Answer}
 use Rattle.plan.specs.declared.Answer.the-variants.{Done, Refused}
 use Rattle.book.specs.Book.{Book, start, offered, waitingOf}
-use Rattle.book.specs.Cycle.{stepped, Delivery, deliveries}
+use Rattle.router.specs.Delivery.{Delivery}
+use Rattle.book.specs.Cycle.{stepped, deliveries}
 
 -- a call's kind and arguments: a flow, or a length of delivery memory
 pub data Call : Type 0 where

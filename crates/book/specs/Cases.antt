@@ -12,7 +12,7 @@ use Rattle.window.specs.Conflict.{conflict}
 use Rattle.window.specs.Window.{windowOf}
 use Rattle.window.specs.Flight.{flightOf, flightBound}
 use Rattle.book.specs.Book.{bucketAt}
-use Rattle.book.specs.Cycle.{Delivery}
+use Rattle.router.specs.Delivery.{Delivery}
 use Rattle.book.specs.Calls.{Call, offer, step, run}
 
 -- a flow from (xs,ys) to (xd,yd) with period P and burst σ

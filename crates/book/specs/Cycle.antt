@@ -1,69 +1,67 @@
 -- A step of the packet book: rules 1 to 5 of 01's One cycle, all from the old places and buckets.
 use mathlib.Core.Bool.{Bool, false, cond, not, _&&_}
-use mathlib.Core.List.{List, [], _∷_, _++_, map}
+use mathlib.Core.List.{List, [], _∷_, map}
+use mathlib.Core.Option.{Option, none, some}
 use Prim.Native.Nat.{ℕ, _+_}
-use lib.Dec.{ltb, eqb}
+use lib.Dec.{ltb}
 use lib.ListN.{length}
-use Rattle.laws.specs.Bounded.{anyBelow, tabulate}
+use Rattle.laws.specs.Bounded.{tabulate}
 use Rattle.laws.specs.Count.{one, any, keep, joinBelow}
-use Rattle.torus.specs.Axis.{next}
 use Rattle.flow.specs.declared.Flow.{Flow}
-use Rattle.flow.specs.declared.Port.{Port}
-use Rattle.flow.specs.declared.Port.the-variants.{East, South}
-use Rattle.flow.specs.Offsets.{portOf, sameClient, samePort}
 use Rattle.flow.specs.Plan.{Plan, flowAt}
 use Rattle.bucket.specs.Regulator.{afterCycle}
 use Rattle.place.specs.Place.{Place, W, N, columnOf, rowOf}
+use Rattle.router.specs.Links.{reach}
+use Rattle.router.specs.Rule.{Seen, View, deflects, Way, via, leave, wayFrom, wayIn}
+use Rattle.router.specs.Rule as Rule
+use Rattle.router.specs.Delivery.{Delivery}
 use Rattle.book.specs.Line.{Stage, waiting, placed, left, Line, standsIn, leftAt, entryOf, exitOf}
 use Rattle.book.specs.Book.{Book, bucketAt, waitsFor}
 
--- a register holds a packet
-abbrev pub full : Book → Place → Bool
-full b at = any (λ l. standsIn at (l .stage)) (b .lines)
+-- the lines placed in a register
+abbrev pub linesIn : Book → Place → List Line
+linesIn b at = keep (λ l. standsIn at (l .stage)) (b .lines)
 
--- a packet in W of column x goes S: its column is xd
-abbrev pub turns : Plan → (x y : ℕ) → Line → Bool
-turns p x y l = standsIn (W x y) (l .stage) && eqb x ((flowAt p (l .flow)) .xd)
+-- the flow of the first of these lines; no two lines share a place
+abbrev pub flowOf : Plan → List Line → Option Flow
+flowOf p [] = none
+flowOf p (l ∷ ls) = some (flowAt p (l .flow))
 
--- W goes S at the router in column x and row y
-unfoldable pub westTurns : Plan → Book → (x y : ℕ) → Bool
-westTurns p b x y = any (turns p x y) (b .lines)
+-- the flow of the packet in a register, where there is one
+unfoldable pub holds : Plan → Book → Place → Option Flow
+holds p b at = flowOf p (linesIn b at)
 
--- Rule 1. A W packet goes S if its column is xd, else E. An N packet goes S, but E if W goes S
-abbrev pub output : Plan → Book → Flow → Place → Port
-output p b f (W x y) = cond (eqb x (f .xd)) South East
-output p b f (N x y) = cond (westTurns p b x y) East South
+-- what the router in column x and row y sees
+abbrev pub seen : Plan → Book → (x y : ℕ) → Seen
+seen p b x y = record { west = holds p b (W x y); north = holds p b (N x y) }
 
--- one deflection more: an N packet that goes E
-abbrev pub deflects : Plan → Book → Place → Bool
-deflects p b (W x y) = false
-deflects p b (N x y) = westTurns p b x y
+-- what rule 3 is fed
+abbrev pub view : Plan → Book → View
+view p b =
+    record {
+      waits = λ f. any (waitsFor f) (b .lines);
+      token = λ f. ltb 0 ((bucketAt b f) .tokens);
+      seen = seen p b;
+    }
 
-abbrev pub deflected : Plan → Book → Stage → Bool
-deflected p b waiting = false
-deflected p b (placed e at) = deflects p b at
-deflected p b (left e t x y) = false
+-- rules 1 and 2 for a packet of flow f in a register
+abbrev pub output : Plan → Book → Flow → Place → Way
+output p b f at = wayFrom (seen p b (columnOf at) (rowOf at)) at f
 
--- Rule 2. S at the packet's destination is the exit. Otherwise S reaches the N register to the south and E the W register to the east.
--- The packet of flow f with entry e is at the router in column x and row y in cycle c
-unfoldable pub sent : Plan → Flow → (c e x y : ℕ) → Port → Stage
-sent p f c e x y East = placed e (W (next (p .sx) x) y)
-sent p f c e x y South = cond (eqb x (f .xd) && eqb y (f .yd)) (left e c x y) (placed e (N x (next (p .sy) y)))
+-- rule 3 for flow number f
+abbrev pub enters : Plan → Book → ℕ → Bool
+enters p b f = Rule.enters p (view p b) f
 
--- Rule 3. E is open if W is empty. S is open if N is empty and W isn't going S
-abbrev pub isOpen : Plan → Book → (x y : ℕ) → Port → Bool
-isOpen p b x y East = not (full b (W x y))
-isOpen p b x y South = not (full b (N x y)) && not (westTurns p b x y)
+-- each deflection adds 1 to its line's D
+abbrev pub isDeflected : Plan → Book → Stage → Bool
+isDeflected p b waiting = false
+isDeflected p b (placed e at) = deflects (seen p b (columnOf at) (rowOf at)) at
+isDeflected p b (left e t x y) = false
 
--- a waiting packet, a token and an open port
-unfoldable pub ready : Plan → Book → ℕ → Bool
-ready p b f =
-    let φ : Flow = flowAt p f in
-    any (waitsFor f) (b .lines) && ltb 0 ((bucketAt b f) .tokens) && isOpen p b (φ .xs) (φ .ys) (portOf (p .sx) φ)
-
--- the lowest-numbered flow of that client with these enters
-unfoldable pub enters : Plan → Book → ℕ → Bool
-enters p b f = ready p b f && not (anyBelow f (λ g. sameClient (flowAt p f) (flowAt p g) && ready p b g))
+-- a packet with entry e that takes a way out of the router in column x and row y in cycle c
+unfoldable pub sent : Plan → (c e x y : ℕ) → Way → Stage
+sent p c e x y (via o) = placed e (reach p x y o)
+sent p c e x y leave = left e c x y
 
 -- no waiting line of the flow has a lower serial
 unfoldable pub lowest : Book → Line → Bool
@@ -74,23 +72,11 @@ abbrev pub moveStage : Plan → Book → Line → Stage → Stage
 moveStage p b l waiting =
     let φ : Flow = flowAt p (l .flow) in
     cond (enters p b (l .flow) && lowest b l)
-    (sent p φ (b .clock) (b .clock) (φ .xs) (φ .ys) (portOf (p .sx) φ))
+    (sent p (b .clock) (b .clock) (φ .xs) (φ .ys) (wayIn p (l .flow)))
     waiting
 moveStage p b l (placed e at) =
-    let φ : Flow = flowAt p (l .flow) in
-    sent p φ (b .clock) e (columnOf at) (rowOf at) (output p b φ at)
+    sent p (b .clock) e (columnOf at) (rowOf at) (output p b (flowAt p (l .flow)) at)
 moveStage p b l (left e t x y) = left e t x y
-
--- the line's packet leaves the router in column x and row y by this output in the step
-abbrev pub leaves : Plan → Book → Line → (x y : ℕ) → Port → Stage → Bool
-leaves p b l x y o waiting =
-    let φ : Flow = flowAt p (l .flow) in
-    enters p b (l .flow) && lowest b l && (eqb x (φ .xs) && eqb y (φ .ys) && samePort (portOf (p .sx) φ) o)
-leaves p b l x y o (placed e at) = eqb x (columnOf at) && eqb y (rowOf at) && samePort (output p b (flowAt p (l .flow)) at) o
-leaves p b l x y o (left e t x′ y′) = false
-
-abbrev pub leavesBy : Plan → Book → (x y : ℕ) → Port → Line → Bool
-leavesBy p b x y o l = leaves p b l x y o (l .stage)
 
 abbrev pub move : Plan → Book → Line → Line
 move p b l =
@@ -99,7 +85,7 @@ move p b l =
       serial = l .serial;
       offer = l .offer;
       q = l .q;
-      D = l .D + one (deflected p b (l .stage));
+      D = l .D + one (isDeflected p b (l .stage));
       stage = moveStage p b l (l .stage);
     }
 
@@ -112,14 +98,6 @@ stepped p b =
       lines = map (move p b) (b .lines);
     }
 
--- what an exit writes
-pub record Delivery : Type 0 where
-  pub flow : ℕ
-  pub serial : ℕ
-  pub entry : ℕ
-  pub exit : ℕ
-  pub D : ℕ
-
 abbrev pub deliveryOf : Line → Delivery
 deliveryOf l =
     record { flow = l .flow; serial = l .serial; entry = entryOf (l .stage); exit = exitOf (l .stage); D = l .D }
@@ -131,8 +109,3 @@ exitsOf p c ls = joinBelow (p .sy) (λ y. joinBelow (p .sx) (λ x. keep (λ l. l
 -- the deliveries of a step
 unfoldable pub deliveries : Plan → Book → List Delivery
 deliveries p b = map deliveryOf (exitsOf p (b .clock) ((stepped p b) .lines))
-
--- each delivery is five words: flow, serial, entry cycle, exit cycle, D
-abbrev pub wordsOf : List Delivery → List ℕ
-wordsOf [] = []
-wordsOf (d ∷ ds) = (d .flow ∷ d .serial ∷ d .entry ∷ d .exit ∷ d .D ∷ []) ++ wordsOf ds

@@ -1,26 +1,20 @@
--- What the packet book promises after every list of calls (01, The packet book, its end; State memory).
+-- What the packet book promises after every list of calls (01, The packet book, its end).
 use mathlib.Core.Bool.{Bool, true, _&&_}
-use mathlib.Core.List.{List, map, List·Memᴰ as Mem}
+use mathlib.Core.List.{List, List·Memᴰ as Mem}
 use mathlib.Core.Path.{_≡_}
 use Prim.Native.Nat.{ℕ, _+_, _-_, _*_, _≤_, _<_}
-use lib.Dec.{ltb, eqb}
-use lib.ListN.{length}
-use Rattle.laws.specs.Bounded.{tabulate}
-use Rattle.laws.specs.Count.{count, keep}
+use lib.Dec.{eqb}
+use Rattle.laws.specs.Count.{count}
 use Rattle.flow.specs.declared.Flow.{Flow}
-use Rattle.flow.specs.declared.Port.{Port}
-use Rattle.flow.specs.Offsets.{sameClient}
 use Rattle.flow.specs.Plan.{Plan, flowAt}
-use Rattle.bucket.specs.Regulator.{bucketFits}
 use Rattle.window.specs.declared.Window.the-variants.{At}
 use Rattle.window.specs.Window.{windowOf}
 use Rattle.window.specs.Flight.{travel, mostDeflections}
 use Rattle.place.specs.Place.{Place, columnOf, rowOf}
-use Rattle.book.specs.Line.{Stage, waiting, placed, left, Line, isWaiting, isLeft, standsIn}
-use Rattle.book.specs.Book.{Book, bucketAt, ofFlow, totalOf, waitingOf, enteredOf}
-use Rattle.book.specs.Cycle.{ready, enters, leavesBy, Delivery, deliveryOf}
-use Rattle.flow.specs.Limits.{lastClock, mostWaiting}
-use Rattle.place.specs.InPlace.{inPlace}
+use Rattle.book.specs.Line.{Stage, waiting, placed, left, Line, isLeft, standsIn}
+use Rattle.book.specs.Book.{Book}
+use Rattle.router.specs.Delivery.{Delivery}
+use Rattle.book.specs.Cycle.{deliveryOf}
 
 -- offer + (q+1)×(P+T−1) − 1
 abbrev pub deadline : Plan → Line → (T : ℕ) → ℕ
@@ -52,19 +46,6 @@ sameWords d e =
 abbrev pub delivers : Line → Delivery → Bool
 delivers l d = sameWords d (deliveryOf l)
 
--- the ranges of a flow's numbers in words that form a state
-pub record FlowInState (p : Plan) (b : Book) (f : ℕ) : Type 0 where
-  pub bucket-fits : bucketFits ((flowAt p f) .burst) ((flowAt p f) .period) (bucketAt b f) ≡ true
-  pub waiting-most : waitingOf b f ≤ mostWaiting
-  pub entered-most : enteredOf b f ≤ b .clock
-
--- what a register's packet has to be in words that form a state
-abbrev pub InState : Plan → Book → Line → Stage → Type 0
-InState p b l waiting = Unit {0}
-InState p b l (placed e at) =
-    (1 ≤ l .serial) × (l .serial ≤ enteredOf b (l .flow)) × (e < b .clock) × (inPlace (p .sx) (p .sy) (flowAt p (l .flow)) at (l .D) (b .clock - e) ≡ true)
-InState p b l (left e t x y) = Unit {0}
-
 -- the book and all that was delivered
 pub record Promises (p : Plan) (b : Book) (delivered : List Delivery) : Type 0 where
   -- where a line's flow has a window T, it enters in time
@@ -77,15 +58,3 @@ pub record Promises (p : Plan) (b : Book) (delivered : List Delivery) : Type 0 w
   pub delivered-only : (d : Delivery) → Mem d delivered → (l : Line) × Mem l (b .lines) × (isLeft (l .stage) ≡ true) × (delivers l d ≡ true)
   -- no two lines share a place
   pub apart : (at : Place) → count (λ (l : Line). standsIn at (l .stage)) (b .lines) ≤ 1
-  -- one output carries one packet
-  pub one-output : (x y : ℕ) (o : Port) → count (leavesBy p b x y o) (b .lines) ≤ 1
-  -- of one client's ready flows only the lowest-numbered enters
-  pub lowest-enters : (f g : ℕ) → enters p b f ≡ true → ready p b g ≡ true → sameClient (flowAt p f) (flowAt p g) ≡ true → f ≤ g
-  -- every line is of a flow of the plan; a flow's serials are 1..n in the order of its offers, the entered ones first
-  pub known : (l : Line) → Mem l (b .lines) → l .flow < length (p .flows)
-  pub numbered : (f : ℕ) → map (λ (l : Line). l .serial) (keep (ofFlow f) (b .lines)) ≡ tabulate (totalOf b f) (λ i. i + 1)
-  pub entered-first : (l : Line) → Mem l (b .lines) → isWaiting (l .stage) ≡ ltb (enteredOf b (l .flow)) (l .serial)
-  -- what 01 asks of words that form a state
-  pub clock-most : b .clock ≤ lastClock
-  pub flow-in-state : (f : ℕ) → f < length (p .flows) → FlowInState p b f
-  pub in-state : (l : Line) → Mem l (b .lines) → InState p b l (l .stage)

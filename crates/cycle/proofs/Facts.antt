@@ -12,7 +12,7 @@ use Rattle.laws.proofs.Cases.{and-true}
 use Rattle.torus.proofs.Axis.{offset-below}
 use Rattle.flow.specs.declared.Flow.{Flow}
 use Rattle.flow.specs.Offsets.{ΔX, ΔY}
-use Rattle.flow.specs.Plan.{flowAt, FlowOk}
+use Rattle.flow.specs.Plan.{mostSize, flowAt, FlowOk}
 use Rattle.place.specs.Place.{Place, W, N}
 use Rattle.place.specs.InPlace.{inPlace, inNorth, rowsDone}
 use Rattle.state.specs.declared.Register.{Register}
@@ -25,7 +25,7 @@ use Rattle.state.specs.Forms.{registerFits}
 use Rattle.state.proofs.Forms.{TallyFacts, StateFacts, packet-facts}
 use Rattle.state.proofs.View.{view-flow, view-tally, view-cell}
 use Rattle.state.proofs.Words.{router-below}
-use Rattle.cycle.specs.Bounds.{deflectionsOf}
+use Rattle.cycle.specs.Sent.{deflectionsOf}
 
 module _ (w : List ℕ) (s : StateFacts w) where
   -- a router's registers lie in the memory
@@ -63,14 +63,14 @@ module _ (w : List ℕ) (s : StateFacts w) where
     north-flow = rw (view-cell w x y h k) (flow-below (N x y) (routerIn w x y + registerSize) (s .north x y h k))
 
     -- a packet in N has been deflected in some of the rows that it has passed
-    pub north-deflections : deflectionsOf ((cellAt (stateOf w) x y) .north) < 16
+    pub north-deflections : deflectionsOf ((cellAt (stateOf w) x y) .north) < mostSize
     unfolding inPlace
     north-deflections = rw (view-cell w x y h k) (of (registerIn w at) refl)
       where
         at : ℕ
         at = routerIn w x y + registerSize
 
-        few : (f : Flow) (D e : ℕ) → FlowOk (sxIn w) (syIn w) f → inPlace (sxIn w) (syIn w) f (N x y) D e ≡ true → D < 16
+        few : (f : Flow) (D e : ℕ) → FlowOk (sxIn w) (syIn w) f → inPlace (sxIn w) (syIn w) f (N x y) D e ≡ true → D < mostSize
         few f D e ok q =
             let sizes = s .header .sy-ok in
             let r = rowsDone (syIn w) f y in
@@ -80,7 +80,7 @@ module _ (w : List ℕ) (s : StateFacts w) where
             let D-most = leb-true D (r - 1) (and-true (eqb x (f .xd) && leb 1 r && leb r (ΔY (syIn w) f)) (leb D (r - 1)) four .1) in
             omega arith
 
-        of : (r : Register) → registerIn w at ≡ r → deflectionsOf r < 16
+        of : (r : Register) → registerIn w at ≡ r → deflectionsOf r < mostSize
         of Empty q = omega arith
         of (Packet flow serial entry deflections) q =
             let p = packet-facts w (N x y) at (s .north x y h k) flow serial entry deflections q in

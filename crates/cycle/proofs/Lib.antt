@@ -1,2 +1,3 @@
 -- What a state's words give to a cycle.
 pub mod Facts
+pub mod Sent

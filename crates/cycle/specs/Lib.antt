@@ -1,7 +1,6 @@
 -- One cycle on a state, in 01's words.
-pub mod Router
-pub mod Entry
+pub mod Seen
 pub mod Step
 pub mod Offer
 pub mod Calls
-pub mod Bounds
+pub mod Sent

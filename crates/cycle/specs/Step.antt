@@ -1,43 +1,62 @@
 -- One cycle on a state, all routers from the old registers, and what it delivers (01, One cycle).
 use mathlib.Core.Bool.{Bool, cond}
 use mathlib.Core.List.{List, [], _∷_}
+use mathlib.Core.Option.{Option, none, some}
 use Prim.Native.Nat.{ℕ, _+_, _-_}
 use lib.ListN.{length}
 use Rattle.laws.specs.Bounded.{tabulate}
 use Rattle.laws.specs.Count.{one, joinBelow}
 use Rattle.laws.specs.Grid.{grid}
-use Rattle.torus.specs.Axis.{previous}
 use Rattle.flow.specs.declared.Flow.{Flow}
-use Rattle.flow.specs.declared.Port.the-variants.{East, South}
 use Rattle.flow.specs.Plan.{flowAt}
 use Rattle.bucket.specs.Regulator.{afterCycle}
+use Rattle.place.specs.Place.{Place, W, N}
+use Rattle.router.specs.Links.{Output, feeder}
+use Rattle.router.specs.Rule.{Seen, deflects, Way, via, leave, sameWay, takes, entrant, wayIn}
+use Rattle.router.specs.Delivery.{Delivery}
 use Rattle.state.specs.declared.Register.{Register}
 use Rattle.state.specs.declared.Register.the-variants.{Empty, Packet}
 use Rattle.state.specs.declared.Tally.{Tally}
 use Rattle.state.specs.declared.Cell.{Cell}
 use Rattle.state.specs.State.{State, tallyAt, cellAt}
-use Rattle.cycle.specs.Router.{atHome, sentEast, sentSouth}
-use Rattle.cycle.specs.Entry.{enters, clientSends}
+use Rattle.cycle.specs.Seen.{seen, view, enters}
 
--- what the router in column x and row y sends by its outputs
-unfoldable pub eastward : State → (x y : ℕ) → Register
-eastward s x y = sentEast (s .plan) x (cellAt s x y) (clientSends s x y East)
+-- one deflection more
+abbrev pub deflected : Register → Register
+deflected Empty = Empty
+deflected (Packet flow serial entry deflections) = Packet flow serial entry (deflections + 1)
 
-unfoldable pub southward : State → (x y : ℕ) → Register
-southward s x y = sentSouth (s .plan) x (cellAt s x y) (clientSends s x y South)
+abbrev pub onward : Bool → Register → Register
+onward deflects r = cond deflects (deflected r) r
 
--- S at the packet's destination is the exit
-abbrev pub exits : State → (x y : ℕ) → Bool
-exits s x y = atHome (s .plan) x y (southward s x y)
+-- the packet that flow f enters: its next serial, D = 0, entry = clock
+abbrev pub entering : State → ℕ → Register
+entering s f = Packet f ((tallyAt s f) .entered + 1) (s .clock) 0
 
--- S reaches the N register to the south and E the W register to the east
-unfoldable pub nextCell : State → (x y : ℕ) → Cell
-nextCell s x y =
-    let above = previous (s .plan .sy) y in
-    record {
-      west = eastward s (previous (s .plan .sx) x) y;
-      north = cond (exits s x above) Empty (southward s x above);
-    }
+-- what a client sends by a way out, by the flow that enters there
+unfoldable pub sendsBy : State → Way → Option ℕ → Register
+sendsBy s o none = Empty
+sendsBy s o (some f) = cond (sameWay (wayIn (s .plan) f) o) (entering s f) Empty
+
+-- the packet that takes this way out of a router: that of W, of N, or the client's
+unfoldable pub sentBy : Seen → (x y : ℕ) → Way → (west north client : Register) → Register
+sentBy v x y o west north client =
+    cond (takes v (W x y) o) (onward (deflects v (W x y)) west)
+    (cond (takes v (N x y) o) (onward (deflects v (N x y)) north) client)
+
+-- for the router in column x and row y
+unfoldable pub carried : State → (x y : ℕ) → Way → Register
+carried s x y o =
+    sentBy (seen s x y) x y o ((cellAt s x y) .west) ((cellAt s x y) .north) (sendsBy s o (entrant (s .plan) (view s) x y))
+
+-- a register then holds what the output that reaches it carried
+unfoldable pub nextRegister : State → Place → Register
+nextRegister s at =
+    let o : Output = feeder (s .plan) at in
+    carried s (o .x) (o .y) (via (o .port))
+
+abbrev pub nextCell : State → (x y : ℕ) → Cell
+nextCell s x y = record { west = nextRegister s (W x y); north = nextRegister s (N x y) }
 
 -- rule 3 and rule 4 for flow f: waiting −1, tokens −1, entered +1 if it enters; then its counter
 unfoldable pub nextTally : State → ℕ → Tally
@@ -60,15 +79,16 @@ stepState s =
       cells = grid (s .plan .sx) (s .plan .sy) (nextCell s);
     }
 
--- five words: flow, serial, entry cycle, exit cycle, D
-abbrev pub exitWords : (clock : ℕ) → Register → List ℕ
-exitWords clock Empty = []
-exitWords clock (Packet flow serial entry deflections) = flow ∷ serial ∷ entry ∷ clock ∷ deflections ∷ []
+-- what a packet that exits in this cycle delivers
+abbrev pub leaving : (clock : ℕ) → Register → List Delivery
+leaving clock Empty = []
+leaving clock (Packet flow serial entry deflections) =
+    record { flow = flow; serial = serial; entry = entry; exit = clock; D = deflections } ∷ []
 
 -- what the router in column x and row y delivers
-unfoldable pub delivered : State → (x y : ℕ) → List ℕ
-delivered s x y = cond (exits s x y) (exitWords (s .clock) (southward s x y)) []
+unfoldable pub delivered : State → (x y : ℕ) → List Delivery
+delivered s x y = leaving (s .clock) (carried s x y leave)
 
 -- routers by row then column
-unfoldable pub stepDelivers : State → List ℕ
-stepDelivers s = joinBelow (s .plan .sy) (λ y. joinBelow (s .plan .sx) (λ x. delivered s x y))
+unfoldable pub deliveries : State → List Delivery
+deliveries s = joinBelow (s .plan .sy) (λ y. joinBelow (s .plan .sx) (λ x. delivered s x y))

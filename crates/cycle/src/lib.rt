@@ -4,17 +4,17 @@ use state::Cell;
 use state::Register;
 use state::Tally;
 ghost use mathlib.Core.Path.{_≡_};
-ghost use mathlib.Core.Bool.{cond, true};
 ghost use Prim.Native.Nat.{_+_, _*_, _<_, _≤_};
 ghost use Rattle.laws.specs.Grid.{cellIndex};
-ghost use Rattle.flow.specs.Plan.{flowAt};
-ghost use Rattle.state.specs.declared.Register.the-variants.{Empty};
+ghost use Rattle.flow.specs.Plan.{mostSize, flowAt};
+ghost use Rattle.router.specs.Rule.{turnsSouth};
 ghost use Rattle.state.specs.State.{tallyAt, cellAt};
 ghost use Rattle.state.specs.Words.{flowOf};
 ghost use Rattle.state.specs.Read.{sxIn, syIn, countIn, routerIn, stateOf};
 ghost use Rattle.state.proofs.Forms.{StateFacts};
-ghost use Rattle.cycle.specs.Router.{isEmpty, turnsSouth, atHome, deflected, firstOf};
-ghost use Rattle.cycle.specs.Bounds.{deflectionsOf};
+ghost use Rattle.cycle.specs.Seen.{shown};
+ghost use Rattle.cycle.specs.Step.{deflected};
+ghost use Rattle.cycle.specs.Sent.{deflectionsOf, isEmpty, orElse, sentEast, sentSouth, exits};
 
 pub fn is_empty(r: Register) -> bool
     ensures { λ e. ⌜ e ≡ isEmpty r ⌝ }
@@ -32,7 +32,7 @@ pub fn is_empty(r: Register) -> bool
 
 // The packet with one deflection more.
 fn deflected(r: Register) -> Register
-    requires { ⌜ deflectionsOf r < 4294967295 ⌝ }
+    requires { ⌜ deflectionsOf r < mostSize ⌝ }
     ensures { λ d. ⌜ d ≡ deflected r ⌝ }
 {
     match r {
@@ -51,12 +51,12 @@ fn deflected(r: Register) -> Register
     }
 }
 
-// The first packet of the two.
-fn first_of(r: Register, later: Register) -> Register
-    ensures { λ f. ⌜ f ≡ firstOf r later ⌝ }
+// The packet of r, or else that of `other`.
+fn or_else(r: Register, other: Register) -> Register
+    ensures { λ f. ⌜ f ≡ orElse r other ⌝ }
 {
     match r {
-        Register::Empty => later,
+        Register::Empty => other,
         Register::Packet {
             flow: _,
             serial: _,
@@ -66,25 +66,25 @@ fn first_of(r: Register, later: Register) -> Register
     }
 }
 
-// What a router sends E: `turns` says that its W packet goes S, and `client` is what its client sends by that port.
-pub fn sent_east(turns: bool, west: Register, north: Register, client: Register) -> Register
-    requires { ⌜ deflectionsOf north < 4294967295 ⌝ }
-    ensures { λ r. ⌜ r ≡ cond turns (deflected north) (firstOf west client) ⌝ }
+// What a router sends E: `turning` says that its W packet goes S, and `client` is what its client sends by that port.
+pub fn sent_east(turning: bool, west: Register, north: Register, client: Register) -> Register
+    requires { ⌜ deflectionsOf north < mostSize ⌝ }
+    ensures { λ r. ⌜ r ≡ sentEast turning west north client ⌝ }
 {
-    if turns {
+    if turning {
         return deflected(north);
     }
-    first_of(west, client)
+    or_else(west, client)
 }
 
 // What a router sends S, likewise.
-pub fn sent_south(turns: bool, west: Register, north: Register, client: Register) -> Register
-    ensures { λ r. ⌜ r ≡ cond turns west (firstOf north client) ⌝ }
+pub fn sent_south(turning: bool, west: Register, north: Register, client: Register) -> Register
+    ensures { λ r. ⌜ r ≡ sentSouth turning west north client ⌝ }
 {
-    if turns {
+    if turning {
         return west;
     }
-    first_of(north, client)
+    or_else(north, client)
 }
 
 // Where the router in column x and row y stands among the routers.
@@ -138,7 +138,7 @@ pub fn cell_at(state: &[u32], x: u32, y: u32) -> Cell
 pub fn turns_south(state: &[u32], x: u32, west: Register) -> bool
     requires { ⌜ StateFacts (now state) ⌝ }
     requires { ⌜ flowOf west < countIn (now state) ⌝ }
-    ensures { λ r. ⌜ r ≡ turnsSouth ((stateOf (now (state .entry))) .plan) x west ⌝ }
+    ensures { λ r. ⌜ r ≡ turnsSouth x (shown ((stateOf (now (state .entry))) .plan) west) ⌝ }
 {
     match west {
         Register::Empty => false,
@@ -151,11 +151,11 @@ pub fn turns_south(state: &[u32], x: u32, west: Register) -> bool
     }
 }
 
-// The router in column x and row y is the packet's destination.
-pub fn at_home(state: &[u32], x: u32, y: u32, r: Register) -> bool
+// A packet that goes S from the router in column x and row y exits there.
+pub fn exits(state: &[u32], x: u32, y: u32, r: Register) -> bool
     requires { ⌜ StateFacts (now state) ⌝ }
     requires { ⌜ flowOf r < countIn (now state) ⌝ }
-    ensures { λ h. ⌜ h ≡ atHome ((stateOf (now (state .entry))) .plan) x y r ⌝ }
+    ensures { λ e. ⌜ e ≡ exits ((stateOf (now (state .entry))) .plan) x y r ⌝ }
 {
     match r {
         Register::Empty => false,

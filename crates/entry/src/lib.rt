@@ -5,21 +5,22 @@ use state::Tally;
 ghost use mathlib.Core.Path.{_≡_};
 ghost use mathlib.Core.Bool.{true};
 ghost use Prim.Native.Nat.{_+_, _*_, _<_, _≤_};
-ghost use lib.Dec.{eqb};
 ghost use lib.ListN.{length, getD};
 ghost use Rattle.laws.specs.Grid.{cellIndex};
 ghost use Rattle.laws.specs.Turns.{turns};
-ghost use Rattle.flow.specs.Plan.{FlowOk};
+ghost use Rattle.flow.specs.Plan.{mostSize, mostFlows, FlowOk};
+ghost use Rattle.flow.specs.Limits.{lastClock};
+ghost use Rattle.router.specs.Rule.{ready, isFlow};
 ghost use Rattle.state.specs.Read.{sxIn, syIn, countIn, clockIn, stateOf};
 ghost use Rattle.state.proofs.Forms.{StateFacts};
-ghost use Rattle.cycle.specs.Entry.{ready};
-ghost use Rattle.entry.specs.Entrants.{openFor, tallyAfter, Entrants, tallied};
+ghost use Rattle.cycle.specs.Seen.{view};
+ghost use Rattle.entry.specs.Entrants.{portOpen, tallyAfter, entrantIn, Entrants, tallied};
 
 // The flow's port at its client's router is open.
 fn port_open(state: &[u32], flow: Flow) -> bool
     requires { ⌜ StateFacts (now state) ⌝ }
     requires { ⌜ FlowOk (sxIn (now state)) (syIn (now state)) flow ⌝ }
-    ensures { λ r. ⌜ r ≡ openFor (stateOf (now (state .entry))) flow ⌝ }
+    ensures { λ r. ⌜ r ≡ portOpen (stateOf (now (state .entry))) flow ⌝ }
 {
     let cell = cycle::cell_at(state, flow.xs, flow.ys);
     let west = cell.west;
@@ -40,7 +41,7 @@ fn port_open(state: &[u32], flow: Flow) -> bool
 fn ready(state: &[u32], f: u32) -> bool
     requires { ⌜ StateFacts (now state) ⌝ }
     requires { ⌜ f < countIn (now state) ⌝ }
-    ensures { λ r. ⌜ r ≡ ready (stateOf (now (state .entry))) f ⌝ }
+    ensures { λ r. ⌜ r ≡ ready ((stateOf (now (state .entry))) .plan) (view (stateOf (now (state .entry)))) f ⌝ }
 {
     let t = cycle::tally_at(state, f);
     if t.waiting < 1 {
@@ -55,7 +56,7 @@ fn ready(state: &[u32], f: u32) -> bool
 
 // A flow's tally after a cycle.
 fn tally_after(flow: Flow, t: Tally, enters: bool) -> Tally
-    requires { ⌜ (t .bucket .count < flow .period) × (t .entered < 4294967295) ⌝ }
+    requires { ⌜ (t .bucket .count < flow .period) × (t .entered < lastClock) ⌝ }
     requires { ⌜ (enters ≡ true → (1 ≤ t .bucket .tokens) × (1 ≤ t .waiting)) ⌝ }
     ensures { λ r. ⌜ r ≡ tallyAfter flow t enters ⌝ }
 {
@@ -108,9 +109,9 @@ pub fn find_entrants(state: &[u32], entrants: &mut [u32])
 
 // Flow f is its client's entrant.
 fn entered(entrants: &[u32], sx: u32, flow: Flow, f: u32) -> bool
-    requires { ⌜ (sx ≤ 16) × ((flow .xs < sx) × (flow .ys < 16)) ⌝ }
-    requires { ⌜ (cellIndex sx (flow .xs) (flow .ys) < length (now entrants)) × (f < 256) ⌝ }
-    ensures { λ r. ⌜ r ≡ eqb (getD (now (entrants .entry)) (cellIndex sx (flow .xs) (flow .ys)) 0) (f + 1) ⌝ }
+    requires { ⌜ (sx ≤ mostSize) × ((flow .xs < sx) × (flow .ys < mostSize)) ⌝ }
+    requires { ⌜ (cellIndex sx (flow .xs) (flow .ys) < length (now entrants)) × (f < mostFlows) ⌝ }
+    ensures { λ r. ⌜ r ≡ isFlow f (entrantIn (getD (now (entrants .entry)) (cellIndex sx (flow .xs) (flow .ys)) 0)) ⌝ }
 {
     let client = cycle::router_index(sx, flow.xs, flow.ys);
     entrants[client] == f + 1
@@ -119,7 +120,7 @@ fn entered(entrants: &[u32], sx: u32, flow: Flow, f: u32) -> bool
 // Every flow's next tally, by the entrants of all clients.
 pub fn tally_flows(state: &mut [u32], entrants: &[u32])
     requires { ⌜ StateFacts (now state) ⌝ }
-    requires { ⌜ clockIn (now state) < 4294967295 ⌝ }
+    requires { ⌜ clockIn (now state) < lastClock ⌝ }
     requires { ⌜ Entrants (stateOf (now state)) (countIn (now state)) (now entrants) ⌝ }
     ensures { λ _. ⌜ now (state .exit) ≡ turns (countIn (now (state .entry))) (tallied (now (state .entry))) (now (state .entry)) ⌝ }
 {

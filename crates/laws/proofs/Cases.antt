@@ -7,7 +7,7 @@ use lib.Dec.{eqb}
 use mathlib.Core.Path.{_≡_, refl, sym, _∙_}
 use mathlib.Core.Logic.{_⊎_, inl, inr}
 use borrow.Author.Needs.{needs}
-use borrow.Author.Tests.{lt-ltb, le-ltb, le-leb, lt-leb, eq-eqb, ne-eqb, not-true, not-false}
+use borrow.Author.Tests.{lt-ltb, le-ltb, le-leb, lt-leb, eq-eqb, ne-eqb, eqb-true, not-true, not-false}
 
 pub ruleset tests = (lt-ltb, le-ltb, le-leb, lt-leb, eq-eqb, ne-eqb)
 
@@ -24,6 +24,9 @@ pub test : (b : Bool) → (b ≡ true) ⊎ (b ≡ false)
 test true = inl refl
 test false = inr refl
 
+pub never : (b : Bool) → (b ≡ true → ⊥) → b ≡ false
+never b h = elim (test b) [ inl t ↦ absurd (h t) | inr t ↦ t ]
+
 pub and-true : (a b : Bool) → a && b ≡ true → (a ≡ true) × (b ≡ true)
 and-true true b e = (refl, e)
 and-true false b e =
@@ -35,6 +38,13 @@ or-false false b e = (refl, e)
 or-false true b e =
     let z : _≡_ {A = ℕ} 0 1 = cc in
     absurd (omega arith)
+
+-- two pairs of numbers
+pub eqb-both : (a b c d : ℕ) → eqb a b && eqb c d ≡ true → (a ≡ b) × (c ≡ d)
+eqb-both a b c d e = let t = and-true (eqb a b) (eqb c d) e in (eqb-true a b (t .0), eqb-true c d (t .1))
+
+pub both-eqb : (a b c d : ℕ) → a ≡ b → c ≡ d → eqb a b && eqb c d ≡ true
+both-eqb a b c d e f = rw (eq-eqb a b e, eq-eqb c d f)
 
 -- a number by tests is 0: the first test failed, and the rest is 0
 pub passed : (b : Bool) (n rest : ℕ) → cond b (suc n) rest ≡ 0 → (b ≡ false) × (rest ≡ 0)

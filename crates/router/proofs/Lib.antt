@@ -1,1 +1,7 @@
--- The laws of links and of the routing rule.
+-- The laws of links, of the routing rule and of a packet's path under it.
+pub mod Links
+pub mod Rule
+pub mod Entrant
+pub mod Path
+pub mod InPlace
+pub mod Delivery

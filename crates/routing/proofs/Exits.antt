@@ -1,124 +1,126 @@
--- The words that a cycle delivers: five for each exit, row by row. Rests on specs/Step.
-use mathlib.Core.Bool.{Bool, true, false, cond}
-use mathlib.Core.List.{List, [], _∷_}
+-- What a walk over routers pushes and delivers, turn by turn: five words for each exit, row by row. Rests on the words of deliveries.
+use mathlib.Core.List.{List, []}
 use mathlib.Core.Path.{_≡_, refl, _∙_}
-use Prim.Native.Nat.{ℕ, zero, suc, _+_, _*_, _≤_}
-use native.Mathlib.Nat.{add-zero}
+use Prim.Native.Nat.{ℕ, zero, suc, _+_, _*_, _≤_, _<_}
+use native.Mathlib.Nat.{add-zero, mul-le-mul-left, mul-suc}
 use native.Mathlib.Numerals.{add-one}
 use native.Mathlib.Omega.{arith}
 use lib.ListN.{length, length-append}
-use lib.Seq.{sets}
-use Rattle.laws.specs.Bounded.{sumBelow}
-use Rattle.laws.specs.Count.{one, joinBelow}
-use Rattle.laws.proofs.Stands.{sets-append}
+use lib.Seq.{sets, length-sets}
+use Rattle.laws.specs.Count.{joinBelow}
 use Rattle.laws.specs.Turns.{turns}
+use Rattle.laws.proofs.Stands.{sets-append}
 use Rattle.laws.proofs.Turns.{turns-none, turns-more}
-use Rattle.laws.proofs.Sum.{sum-none, sum-more, sum-most}
+use Rattle.flow.specs.Limits.{exitSize}
+use Rattle.router.specs.Rule.{leave}
+use Rattle.router.specs.Delivery.{Delivery, wordsOf}
+use Rattle.router.proofs.Delivery.{words-append, words-length}
 use Rattle.state.specs.declared.Register.{Register}
 use Rattle.state.specs.declared.Register.the-variants.{Empty, Packet}
 use Rattle.state.specs.State.{State}
-use Rattle.cycle.specs.Router.{atHome}
 use Rattle.state.specs.Read.{sxIn, syIn, planIn, stateOf}
-use Rattle.cycle.specs.Step.{exits, exitWords, delivered, southward, stepDelivers}
-use Rattle.cycle.specs.Calls.{exitCount}
-use Rattle.routing.specs.Walk.{pushed, pushedRow, rowExits, rowDelivers}
+use Rattle.state.proofs.Forms.{StateFacts}
+use Rattle.cycle.specs.Step.{carried, leaving, delivered, deliveries}
+use Rattle.cycle.proofs.Facts.{cells-most}
+use Rattle.routing.specs.Walk.{pushed, pushedRow, rowDelivers, ExitRoom}
 
--- a walk whose turn i pushes registers into the next words, counts c i exits, and delivers five words for each
+-- a walk whose turn i pushes registers into the next words and delivers
 pub record Walk : Type 0 where
-  pub push : ℕ → List ℕ → List ℕ
-  pub exit : ℕ → ℕ
-  pub words : ℕ → List ℕ
-  pub five : (i : ℕ) → length (words i) ≡ 5 * exit i
+  pub pushes : ℕ → List ℕ → List ℕ
+  pub delivers : ℕ → List Delivery
 
 -- what it leaves after n turns, begun with `count` exits: next words, delivery memory and count
 pub record Walked (walk : Walk) (next₀ delivery₀ : List ℕ) (count n : ℕ) (next delivery : List ℕ) (done : ℕ) : Type 0 where
-  pub next-is : next ≡ turns n (walk .push) next₀
-  pub done-is : done ≡ count + sumBelow n (walk .exit)
-  pub delivery-is : delivery ≡ sets delivery₀ (5 * count) (joinBelow n (walk .words))
-
--- five words for each exit
-length-counted : (walk : Walk) (n : ℕ) → length (joinBelow n (walk .words)) ≡ 5 * sumBelow n (walk .exit)
-unfolding sumBelow
-length-counted walk zero = refl
-length-counted walk (suc n) =
-    omega (arith, length-append (joinBelow n (walk .words)) (walk .words n), length-counted walk n, walk .five n)
+  pub next-is : next ≡ turns n (walk .pushes) next₀
+  pub next-long : length next ≡ length next₀
+  pub done-is : done ≡ count + length (joinBelow n (walk .delivers))
+  pub delivery-is : delivery ≡ sets delivery₀ (exitSize * count) (wordsOf (joinBelow n (walk .delivers)))
 
 module _ (walk : Walk) (next₀ delivery₀ : List ℕ) (count : ℕ) where
   pub walked-none : Walked walk next₀ delivery₀ count 0 next₀ delivery₀ count
-  walked-none =
-      record { next-is = turns-none (walk .push) next₀; done-is = omega (arith, sum-none (walk .exit)); delivery-is = refl }
+  walked-none = record { next-is = turns-none (walk .pushes) next₀; next-long = refl; done-is = omega arith; delivery-is = refl }
 
-  -- one turn more
-  pub walked-more : (n : ℕ) (next delivery : List ℕ) (done : ℕ) → Walked walk next₀ delivery₀ count n next delivery done
-      → (next′ delivery′ : List ℕ) (done′ : ℕ)
-      → next′ ≡ walk .push n next → done′ ≡ done + walk .exit n → delivery′ ≡ sets delivery (5 * done) (walk .words n)
-      → Walked walk next₀ delivery₀ count (n + 1) next′ delivery′ done′
-  walked-more n next delivery done w next′ delivery′ done′ p q r =
-      let at : 5 * done ≡ 5 * count + length (joinBelow n (walk .words)) = omega (arith, w .done-is, length-counted walk n) in
-      record {
-        next-is = p ∙ turns-more n (walk .push) next₀ next (w .next-is);
-        done-is = omega (arith, w .done-is, sum-more (walk .exit) n);
-        delivery-is = r ∙ rw (w .delivery-is, at, add-one) (sets-append delivery₀ (5 * count) (joinBelow n (walk .words)) (walk .words n));
-      }
+  pub walked-long : {n : ℕ} {next delivery : List ℕ} {done : ℕ} → Walked walk next₀ delivery₀ count n next delivery done
+      → length delivery ≡ length delivery₀
+  walked-long w = rw (w .delivery-is) (rw length-sets)
 
-  -- and with no exit
-  pub walked-quiet : (n : ℕ) (next delivery : List ℕ) (done : ℕ) → Walked walk next₀ delivery₀ count n next delivery done
-      → (next′ delivery′ : List ℕ) (done′ : ℕ) → next′ ≡ walk .push n next → done′ ≡ done → delivery′ ≡ delivery
-      → walk .exit n ≡ 0 → walk .words n ≡ [] → Walked walk next₀ delivery₀ count (n + 1) next′ delivery′ done′
-  walked-quiet n next delivery done w next′ delivery′ done′ p q r exit words =
-      walked-more n next delivery done w next′ delivery′ done′ p (rw (exit, add-zero) q) (rw words r)
+  module _ (n : ℕ) (next delivery : List ℕ) (done : ℕ) (w : Walked walk next₀ delivery₀ count n next delivery done)
+      (next′ delivery′ : List ℕ) (done′ : ℕ) (pushes : next′ ≡ walk .pushes n next) (long : length next′ ≡ length next) where
+    abbrev before : List Delivery
+    before = joinBelow n (walk .delivers)
 
-pub delivered-five : (s : State) (x y : ℕ) → length (delivered s x y) ≡ 5 * one (exits s x y)
-unfolding delivered atHome
-delivered-five s x y = five (southward s x y)
+    -- one turn more
+    pub walked-more : done′ ≡ done + length (walk .delivers n) → delivery′ ≡ sets delivery (exitSize * done) (wordsOf (walk .delivers n))
+        → Walked walk next₀ delivery₀ count (n + 1) next′ delivery′ done′
+    walked-more q r =
+        let behind : exitSize * done ≡ exitSize * count + length (wordsOf before) = omega (arith, w .done-is, words-length before) in
+        record {
+          next-is = pushes ∙ turns-more n (walk .pushes) next₀ next (w .next-is);
+          next-long = long ∙ w .next-long;
+          done-is = rw add-one (omega (arith, w .done-is, length-append before (walk .delivers n)));
+          delivery-is =
+              r
+              ∙ rw (w .delivery-is, behind, add-one, words-append before (walk .delivers n))
+              (sets-append delivery₀ (exitSize * count) (wordsOf before) (wordsOf (walk .delivers n)));
+        }
+
+    -- and with no exit
+    pub walked-quiet : walk .delivers n ≡ [] → done′ ≡ done → delivery′ ≡ delivery → Walked walk next₀ delivery₀ count (n + 1) next′ delivery′ done′
+    walked-quiet none′ q r = walked-more (rw (none′, add-zero) q) (rw none′ r)
+
+-- n turns of at most c exits
+few : (c n : ℕ) (delivers : ℕ → List Delivery) → ((i : ℕ) → length (delivers i) ≤ c) → length (joinBelow n delivers) ≤ c * n
+few c zero delivers h = omega arith
+few c (suc n) delivers h = omega (arith, few c n delivers h, h n, length-append (joinBelow n delivers) (delivers n))
+
+-- a router delivers one packet at most
+delivered-most : (s : State) (x y : ℕ) → length (delivered s x y) ≤ 1
+unfolding delivered
+delivered-most s x y = most (carried s x y leave)
   where
-    five : (r : Register) → length (cond (atHome (s .plan) x y r) (exitWords (s .clock) r) []) ≡ 5 * one (atHome (s .plan) x y r)
-    five Empty = refl
-    five (Packet flow serial entry deflections) = by (atHome (s .plan) x y (Packet flow serial entry deflections))
-      where
-        by : (b : Bool) → length (cond b (flow ∷ serial ∷ entry ∷ s .clock ∷ deflections ∷ []) []) ≡ 5 * one b
-        by true = refl
-        by false = refl
+    most : (r : Register) → length (leaving (s .clock) r) ≤ 1
+    most Empty = omega arith
+    most (Packet flow serial entry deflections) = omega arith
 
-one-most : (b : Bool) → one b ≤ 1
-one-most true = omega arith
-one-most false = omega arith
+module _ (w : List ℕ) where
+  -- the routers of row y
+  abbrev pub rowWalk : (y : ℕ) → Walk
+  rowWalk y = record { pushes = λ x. pushed w x y; delivers = λ x. delivered (stateOf w) x y }
 
--- the routers of row y
-abbrev pub rowWalk : (w : List ℕ) → (y : ℕ) → Walk
-rowWalk w y =
-    record {
-      push = λ x. pushed w x y;
-      exit = λ x. one (exits (stateOf w) x y);
-      words = λ x. delivered (stateOf w) x y;
-      five = λ x. delivered-five (stateOf w) x y;
-    }
+  row-most : (y n : ℕ) → length (joinBelow n (rowWalk y .delivers)) ≤ n
+  row-most y n = omega (arith, few 1 n (rowWalk y .delivers) (λ x. delivered-most (stateOf w) x y))
 
--- at most one exit at each
-pub row-most : (w : List ℕ) (y n : ℕ) → sumBelow n (rowWalk w y .exit) ≤ n
-row-most w y n = omega (arith, sum-most (rowWalk w y .exit) 1 n (λ x h. one-most (exits (stateOf w) x y)))
+  -- one more has room
+  pub row-room : (y count n : ℕ) (next₀ delivery₀ next delivery : List ℕ) (done : ℕ)
+      → Walked (rowWalk y) next₀ delivery₀ count n next delivery done → ExitRoom count (sxIn w) delivery₀ → n < sxIn w → ExitRoom done 1 delivery
+  row-room y count n next₀ delivery₀ next delivery done walked room h =
+      let long = walked-long (rowWalk y) next₀ delivery₀ count walked in
+      let most = row-most y n in
+      record { few = omega (arith, walked .done-is, room .few); room = omega (arith, walked .done-is, room .room) }
 
-pub row-five : (w : List ℕ) (y : ℕ) → length (rowDelivers w y) ≡ 5 * rowExits w y
-unfolding rowDelivers rowExits
-row-five w y = length-counted (rowWalk w y) (sxIn w)
+  -- all rows
+  abbrev pub allWalk : Walk
+  allWalk = record { pushes = pushedRow w; delivers = rowDelivers w }
 
--- all rows
-abbrev pub allWalk : (w : List ℕ) → Walk
-allWalk w = record { push = pushedRow w; exit = rowExits w; words = rowDelivers w; five = row-five w }
+  all-most : (n : ℕ) → length (joinBelow n (rowDelivers w)) ≤ sxIn w * n
+  unfolding rowDelivers
+  all-most n = few (sxIn w) n (rowDelivers w) (λ y. row-most y (sxIn w))
 
-pub all-most : (w : List ℕ) (n : ℕ) → sumBelow n (allWalk w .exit) ≤ sxIn w * n
-unfolding rowExits
-all-most w n = sum-most (rowExits w) (sxIn w) n (λ y h. row-most w y (sxIn w))
+  -- one more has room
+  pub all-room : StateFacts w → (n : ℕ) (next₀ delivery₀ next delivery : List ℕ) (done : ℕ)
+      → Walked allWalk next₀ delivery₀ 0 n next delivery done → exitSize * (sxIn w * syIn w) ≤ length delivery₀ → n < syIn w
+      → ExitRoom done (sxIn w) delivery
+  all-room facts n next₀ delivery₀ next delivery done walked room h =
+      let long = walked-long allWalk next₀ delivery₀ 0 walked in
+      let most = all-most n in
+      let rows = mul-le-mul-left {m = suc n} {n = syIn w} (sxIn w) h in
+      let row = mul-suc (sxIn w) n in
+      record { few = omega (arith, walked .done-is, cells-most w facts); room = omega (arith, walked .done-is) }
 
--- the state's exits and deliveries, row by row
-pub all-exits : (w : List ℕ) → sumBelow (syIn w) (rowExits w) ≡ exitCount (stateOf w)
-unfolding exitCount rowExits stateOf planIn
-all-exits w = refl
+  pub all-delivered : joinBelow (syIn w) (rowDelivers w) ≡ deliveries (stateOf w)
+  unfolding deliveries rowDelivers stateOf planIn
+  all-delivered = refl
 
-pub all-words : (w : List ℕ) → joinBelow (syIn w) (rowDelivers w) ≡ stepDelivers (stateOf w)
-unfolding stepDelivers rowDelivers stateOf planIn
-all-words w = refl
-
--- they fit where 10 isn't refused
-pub delivers-fit : (w : List ℕ) → length (stepDelivers (stateOf w)) ≤ 5 * (sxIn w * syIn w)
-delivers-fit w = rw (← (all-words w)) (omega (arith, length-counted (allWalk w) (syIn w), all-most w (syIn w)))
+  -- their words fit where 10 isn't refused
+  pub delivers-fit : length (wordsOf (deliveries (stateOf w))) ≤ exitSize * (sxIn w * syIn w)
+  delivers-fit = rw (← all-delivered) (omega (arith, words-length (joinBelow (syIn w) (rowDelivers w)), all-most (syIn w)))

@@ -1,11 +1,14 @@
--- The flow of what a router sends is one of the plan. Rests on the laws of entry and the facts of a state.
+-- The flow of what a router sends is one of the plan. Rests on who enters and the facts of a state.
 use mathlib.Core.Bool.{Bool, true, false, cond}
 use mathlib.Core.List.{List}
-use Prim.Native.Nat.{ℕ, zero, suc, _≤_, _<_}
+use mathlib.Core.Option.{Option}
+use Prim.Native.Nat.{ℕ, _<_}
 use Rattle.flow.specs.declared.Port.{Port}
 use Rattle.flow.specs.declared.Port.the-variants.{East, South}
 use Rattle.flow.specs.Offsets.{portOf, samePort}
 use Rattle.flow.specs.Plan.{flowAt}
+use Rattle.router.specs.Rule.{turnsSouth, entrant}
+use Rattle.router.proofs.Entrant.{Found, no-entrant, has-entrant, found}
 use Rattle.state.specs.declared.Register.{Register}
 use Rattle.state.specs.declared.Register.the-variants.{Empty, Packet}
 use Rattle.state.specs.State.{cellAt}
@@ -13,47 +16,58 @@ use Rattle.state.specs.Words.{flowOf}
 use Rattle.state.specs.Read.{sxIn, syIn, countIn, stateOf}
 use Rattle.state.proofs.Forms.{StateFacts}
 use Rattle.state.proofs.View.{view-count}
-use Rattle.cycle.specs.Router.{turnsSouth, deflected, firstOf, sentEast, sentSouth}
-use Rattle.cycle.specs.Entry.{clientSends}
-use Rattle.cycle.specs.Step.{eastward, southward}
-use Rattle.entry.specs.Entrants.{sendsBy}
-use Rattle.entry.proofs.Entrant.{client-walk, entrant-below}
+use Rattle.cycle.specs.Seen.{shown, view}
+use Rattle.cycle.specs.Step.{deflected}
+use Rattle.cycle.specs.Sent.{orElse, enteringBy, eastward, southward}
 use Rattle.cycle.proofs.Facts.{west-flow, north-flow}
 
 module _ (w : List ℕ) (s : StateFacts w) where
-  either : (a b : Register) (t : Bool) → flowOf a < countIn w → flowOf b < countIn w → flowOf (cond t a b) < countIn w
+  abbrev InPlan : Register → Type 0
+  InPlan r = flowOf r < countIn w
+
+  either : (a b : Register) (t : Bool) → InPlan a → InPlan b → InPlan (cond t a b)
   either a b true p q = p
   either a b false p q = q
 
-  first : (a b : Register) → flowOf a < countIn w → flowOf b < countIn w → flowOf (firstOf a b) < countIn w
+  first : (a b : Register) → InPlan a → InPlan b → InPlan (orElse a b)
   first Empty b p q = q
   first (Packet flow serial entry deflections) b p q = p
 
-  once : (a : Register) → flowOf a < countIn w → flowOf (deflected a) < countIn w
+  once : (a : Register) → InPlan a → InPlan (deflected a)
   once Empty p = p
   once (Packet flow serial entry deflections) p = p
 
-  -- a client's packet is of a flow of the plan
-  sends-flow : (port : Port) (e : ℕ) → e ≤ countIn w → flowOf (sendsBy (stateOf w) port e) < countIn w
-  unfolding sendsBy
-  sends-flow port zero h = s .header .count-least
-  sends-flow port (suc f) h = either _ _ (samePort port (portOf ((stateOf w) .plan .sx) (flowAt ((stateOf w) .plan) f))) h (s .header .count-least)
-
-  client-flow : (x y : ℕ) (port : Port) → flowOf (clientSends (stateOf w) x y port) < countIn w
-  unfolding stateOf
-  client-flow x y port =
-      rw (client-walk (stateOf w) x y port _, view-count w) (sends-flow port _ (entrant-below (stateOf w) x y (countIn w)))
+  -- who enters is a flow of the plan
+  entering-flow : (port : Port) {x y : ℕ} {who : Option ℕ} → Found ((stateOf w) .plan) (view (stateOf w)) x y who → InPlan (enteringBy (stateOf w) port who)
+  unfolding enteringBy stateOf
+  entering-flow port (no-entrant unready) = s .header .count-least
+  entering-flow port (has-entrant f e) =
+      either _ _ (samePort (portOf ((stateOf w) .plan .sx) (flowAt ((stateOf w) .plan) f)) port) (rw (view-count w) at (e .below)) (s .header .count-least)
 
   module _ (x y : ℕ) (h : x < sxIn w) (k : y < syIn w) where
-    -- the flow of what a router sends is one of the plan
-    pub south-sent : flowOf (southward (stateOf w) x y) < countIn w
-    unfolding southward sentSouth stateOf
-    south-sent = either _ _ (turnsSouth ((stateOf w) .plan) x ((cellAt (stateOf w) x y) .west)) (west-flow w s x y h k) (first ((cellAt (stateOf w) x y) .north) (clientSends (stateOf w) x y South) (north-flow w s x y h k) (client-flow x y South))
+    abbrev west : Register
+    west = (cellAt (stateOf w) x y) .west
 
-    pub east-sent : flowOf (eastward (stateOf w) x y) < countIn w
-    unfolding eastward sentEast stateOf
-    east-sent = either _ _ (turnsSouth ((stateOf w) .plan) x ((cellAt (stateOf w) x y) .west)) (once ((cellAt (stateOf w) x y) .north) (north-flow w s x y h k))
-        (first ((cellAt (stateOf w) x y) .west) (clientSends (stateOf w) x y East) (west-flow w s x y h k) (client-flow x y East))
+    abbrev north : Register
+    north = (cellAt (stateOf w) x y) .north
 
-    pub south-reaches : (exit : Bool) → flowOf (cond exit Empty (southward (stateOf w) x y)) < countIn w
+    abbrev turning : Bool
+    turning = turnsSouth x (shown ((stateOf w) .plan) west)
+
+    abbrev client : Port → Register
+    client port = enteringBy (stateOf w) port (entrant ((stateOf w) .plan) (view (stateOf w)) x y)
+
+    client-flow : (port : Port) → InPlan (client port)
+    client-flow port = entering-flow port (found ((stateOf w) .plan) (view (stateOf w)) x y)
+
+    pub south-sent : InPlan (southward (stateOf w) x y)
+    unfolding southward
+    south-sent = either west _ turning (west-flow w s x y h k) (first north (client South) (north-flow w s x y h k) (client-flow South))
+
+    pub east-sent : InPlan (eastward (stateOf w) x y)
+    unfolding eastward
+    east-sent =
+        either (deflected north) _ turning (once north (north-flow w s x y h k)) (first west (client East) (west-flow w s x y h k) (client-flow East))
+
+    pub south-reaches : (exit : Bool) → InPlan (cond exit Empty (southward (stateOf w) x y))
     south-reaches exit = either Empty (southward (stateOf w) x y) exit (s .header .count-least) south-sent

@@ -1,11 +1,18 @@
--- The routers of a state are on its grid. Rests on the facts of a state.
+-- The routers that a walk visits are on the grid. Rests on the facts of a state.
 use mathlib.Core.List.{List}
-use mathlib.Core.Path.{_≡_}
 use Prim.Native.Nat.{ℕ, _<_}
 use Rattle.state.specs.Read.{sxIn, syIn}
-use Rattle.state.proofs.Forms.{StateFacts}
 use Rattle.routing.specs.declared.Grid.{Grid}
-use Rattle.routing.specs.Walk.{gridIn, OnGrid}
+use Rattle.routing.specs.Walk.{OnGrid, AtRouter, Walking}
 
-pub on-grid : (w : List ℕ) → StateFacts w → (g : Grid) → g ≡ gridIn w → (x y : ℕ) → x < sxIn w → y < syIn w → OnGrid g x y
-on-grid w s g e x y h k = rw e (record { sx-most = s .header .sx-ok .most; sy-most = s .header .sy-ok .most; column = h; row = k })
+module _ (w : List ℕ) (g : Grid) (entrants : List ℕ) (walk : Walking w g entrants) where
+  pub column : (x : ℕ) → x < g .sx → x < sxIn w
+  column x h = rw (walk .grid) at h
+
+  pub on-grid : (x y : ℕ) → x < sxIn w → y < syIn w → OnGrid g x y
+  on-grid x y h k =
+      let sizes = walk .facts .header in
+      rw (walk .grid) (record { sx-most = sizes .sx-ok .most; sy-most = sizes .sy-ok .most; column = h; row = k })
+
+  pub at-router : (x y : ℕ) → x < sxIn w → y < syIn w → AtRouter w x y
+  at-router x y h k = record { facts = walk .facts; clock-below = walk .clock-below; column = h; row = k }

@@ -2,22 +2,25 @@
 use flow::Port;
 use state::Register;
 ghost use mathlib.Core.Path.{_≡_};
-ghost use mathlib.Core.Bool.{cond};
-ghost use mathlib.Core.List.{[]};
+ghost use mathlib.Core.Bool.{cond, true, false};
 ghost use Prim.Native.Nat.{_+_, _*_, _<_, _≤_};
 ghost use lib.ListN.{length};
 ghost use lib.Seq.{sets};
-ghost use Rattle.laws.specs.Count.{one};
+ghost use Rattle.flow.specs.declared.Port.the-variants.{East, South};
 ghost use Rattle.flow.specs.Plan.{mostFlows};
+ghost use Rattle.flow.specs.Limits.{lastClock, exitSize};
+ghost use Rattle.router.specs.Rule.{entrant};
+ghost use Rattle.router.specs.Delivery.{wordsOf};
 ghost use Rattle.state.specs.declared.Register.the-variants.{Empty};
 ghost use Rattle.state.specs.Words.{flowOf};
 ghost use Rattle.state.specs.Read.{sxIn, syIn, countIn, clockIn, stateOf};
 ghost use Rattle.state.proofs.Forms.{StateFacts};
-ghost use Rattle.entry.specs.Entrants.{entrant, Entrants};
-ghost use Rattle.routing.specs.Walk.{gridIn, OnGrid, registersOf, registersIn, pushEast, pushSouth, pushed, pushedRow, pushedAll, rowExits, rowDelivers};
-ghost use Rattle.routing.specs.Sent.{sentBy, sentAt, idle};
-ghost use Rattle.cycle.specs.Step.{exits, exitWords, delivered, stepDelivers};
-ghost use Rattle.cycle.specs.Calls.{exitCount};
+ghost use Rattle.cycle.specs.Seen.{view};
+ghost use Rattle.cycle.specs.Sent.{isEmpty};
+ghost use Rattle.cycle.specs.Step.{leaving, delivered, deliveries};
+ghost use Rattle.entry.specs.Entrants.{entrantIn, Entrants};
+ghost use Rattle.routing.specs.Sent.{clientSends, sentAt, isIdle};
+ghost use Rattle.routing.specs.Walk.{OnGrid, registersOf, registersIn, push, pushed, pushedRow, pushedAll, rowDelivers, AtRouter, Walking, ExitRoom};
 
 // The grid of a state's routers: columns, rows, and where the registers begin in the state's words.
 struct Grid {
@@ -32,11 +35,11 @@ struct Sent {
     south: Register,
 }
 
-// What a client sends, by its entrant: the number + 1 of the flow that enters, or 0.
+// What a client sends, by who enters: the number + 1 of the flow, or 0.
 fn client_sends(state: &[u32], who: u32) -> Sent
     requires { ⌜ StateFacts (now state) ⌝ }
-    requires { ⌜ (who ≤ countIn (now state)) × (clockIn (now state) < 4294967295) ⌝ }
-    ensures { λ r. ⌜ r ≡ sentBy (stateOf (now (state .entry))) who ⌝ }
+    requires { ⌜ (who ≤ countIn (now state)) × (clockIn (now state) < lastClock) ⌝ }
+    ensures { λ r. ⌜ r ≡ clientSends (stateOf (now (state .entry))) (entrantIn who) ⌝ }
 {
     let none = Register::Empty;
     if who == 0 {
@@ -67,29 +70,27 @@ fn client_sends(state: &[u32], who: u32) -> Sent
     }
 }
 
-// What the router in column x and row y sends, with its client's entrant.
+// What the router in column x and row y sends, by who enters there.
 fn router_sends(state: &[u32], x: u32, y: u32, who: u32) -> Sent
-    requires { ⌜ StateFacts (now state) ⌝ }
-    requires { ⌜ (x < sxIn (now state)) × ((y < syIn (now state)) × (clockIn (now state) < 4294967295)) ⌝ }
-    requires { ⌜ who ≡ entrant (stateOf (now state)) x y (countIn (now state)) ⌝ }
+    requires { ⌜ AtRouter (now state) x y ⌝ }
+    requires { ⌜ entrantIn who ≡ entrant ((stateOf (now state)) .plan) (view (stateOf (now state))) x y ⌝ }
     ensures { λ r. ⌜ r ≡ sentAt (stateOf (now (state .entry))) x y ⌝ }
 {
     let cell = cycle::cell_at(state, x, y);
     let west = cell.west;
     let north = cell.north;
-    let turns = cycle::turns_south(state, x, west);
+    let turning = cycle::turns_south(state, x, west);
     let client = client_sends(state, who);
     let by_east = client.east;
     let by_south = client.south;
-    let east = cycle::sent_east(turns, west, north, by_east);
-    let south = cycle::sent_south(turns, west, north, by_south);
+    let east = cycle::sent_east(turning, west, north, by_east);
+    let south = cycle::sent_south(turning, west, north, by_south);
     Sent { east, south }
 }
 
 // What the router in column x and row y sends, with the entrants of all clients.
 fn sent_at(state: &[u32], x: u32, y: u32, entrants: &[u32]) -> Sent
-    requires { ⌜ StateFacts (now state) ⌝ }
-    requires { ⌜ (x < sxIn (now state)) × ((y < syIn (now state)) × (clockIn (now state) < 4294967295)) ⌝ }
+    requires { ⌜ AtRouter (now state) x y ⌝ }
     requires { ⌜ Entrants (stateOf (now state)) (countIn (now state)) (now entrants) ⌝ }
     ensures { λ r. ⌜ r ≡ sentAt (stateOf (now (state .entry))) x y ⌝ }
 {
@@ -100,7 +101,7 @@ fn sent_at(state: &[u32], x: u32, y: u32, entrants: &[u32]) -> Sent
 // Writes what goes E to the W register to the east.
 fn push_east(grid: Grid, x: u32, y: u32, east: Register, next: &mut [u32])
     requires { ⌜ (OnGrid grid x y) × ((flowOf east < mostFlows) × (registersOf grid ≤ length (now next))) ⌝ }
-    ensures { λ _. ⌜ now (next .exit) ≡ pushEast grid x y east (now (next .entry)) ⌝ }
+    ensures { λ _. ⌜ now (next .exit) ≡ push grid x y East east (now (next .entry)) ⌝ }
 {
     let router = cycle::router_index(grid.sx, torus::next(grid.sx, x), y);
     state::put_register(next, state::ROUTER_SIZE * router, east);
@@ -109,7 +110,7 @@ fn push_east(grid: Grid, x: u32, y: u32, east: Register, next: &mut [u32])
 // Writes what goes S, and doesn't exit, to the N register to the south.
 fn push_south(grid: Grid, x: u32, y: u32, south: Register, next: &mut [u32])
     requires { ⌜ (OnGrid grid x y) × ((flowOf south < mostFlows) × (registersOf grid ≤ length (now next))) ⌝ }
-    ensures { λ _. ⌜ now (next .exit) ≡ pushSouth grid x y south (now (next .entry)) ⌝ }
+    ensures { λ _. ⌜ now (next .exit) ≡ push grid x y South south (now (next .entry)) ⌝ }
 {
     let router = cycle::router_index(grid.sx, x, torus::next(grid.sy, y));
     state::put_register(
@@ -131,8 +132,8 @@ fn unless_exits(exits: bool, south: Register) -> Register
 
 // Writes the five words of a packet that exits.
 fn put_exit(delivery: &mut [u32], at: usize, r: Register, clock: u32)
-    requires { ⌜ at + 5 ≤ length (now delivery) ⌝ }
-    ensures { λ _. ⌜ now (delivery .exit) ≡ sets (now (delivery .entry)) at (exitWords clock r) ⌝ }
+    requires { ⌜ at + exitSize ≤ length (now delivery) ⌝ }
+    ensures { λ _. ⌜ now (delivery .exit) ≡ sets (now (delivery .entry)) at (wordsOf (leaving clock r)) ⌝ }
 {
     match r {
         Register::Empty => {}
@@ -153,9 +154,10 @@ fn put_exit(delivery: &mut [u32], at: usize, r: Register, clock: u32)
 
 // Writes the words of a packet that exits behind those of `count` exits, and counts it.
 fn deliver(exits: bool, south: Register, clock: u32, delivery: &mut [u32], count: u32) -> u32
-    requires { ⌜ (count < 256) × (5 * count + 5 ≤ length (now delivery)) ⌝ }
-    ensures { λ r. ⌜ r ≡ count + one exits ⌝ }
-    ensures { λ _. ⌜ now (delivery .exit) ≡ sets (now (delivery .entry)) (5 * count) (cond exits (exitWords clock south) []) ⌝ }
+    requires { ⌜ ExitRoom count 1 (now delivery) ⌝ }
+    requires { ⌜ (exits ≡ true → isEmpty south ≡ false) ⌝ }
+    ensures { λ r. ⌜ r ≡ count + length (leaving clock (cond exits south Empty)) ⌝ }
+    ensures { λ _. ⌜ now (delivery .exit) ≡ sets (now (delivery .entry)) (exitSize * count) (wordsOf (leaving clock (cond exits south Empty))) ⌝ }
 {
     if exits {
         put_exit(delivery, 5 * (count as usize), south, clock);
@@ -166,10 +168,9 @@ fn deliver(exits: bool, south: Register, clock: u32, delivery: &mut [u32], count
 
 // No packet stands at the router in column x and row y, nor enters there.
 fn is_idle(state: &[u32], grid: Grid, x: u32, y: u32, entrants: &[u32]) -> bool
-    requires { ⌜ (StateFacts (now state)) × (grid ≡ gridIn (now state)) ⌝ }
+    requires { ⌜ Walking (now state) grid (now entrants) ⌝ }
     requires { ⌜ (x < sxIn (now state)) × (y < syIn (now state)) ⌝ }
-    requires { ⌜ Entrants (stateOf (now state)) (countIn (now state)) (now entrants) ⌝ }
-    ensures { λ r. ⌜ r ≡ idle (stateOf (now (state .entry))) x y ⌝ }
+    ensures { λ r. ⌜ r ≡ isIdle (stateOf (now (state .entry))) x y ⌝ }
 {
     let router = cycle::router_index(grid.sx, x, y);
     if entrants[router] != 0 {
@@ -187,7 +188,7 @@ fn is_idle(state: &[u32], grid: Grid, x: u32, y: u32, entrants: &[u32]) -> bool
 // An idle router empties its neighbours' next registers.
 fn pass_idle(grid: Grid, x: u32, y: u32, next: &mut [u32])
     requires { ⌜ (OnGrid grid x y) × (registersOf grid ≤ length (now next)) ⌝ }
-    ensures { λ _. ⌜ now (next .exit) ≡ pushSouth grid x y Empty (pushEast grid x y Empty (now (next .entry))) ⌝ }
+    ensures { λ _. ⌜ now (next .exit) ≡ push grid x y South Empty (push grid x y East Empty (now (next .entry))) ⌝ }
 {
     push_east(grid, x, y, Register::Empty, next);
     push_south(grid, x, y, Register::Empty, next);
@@ -204,19 +205,18 @@ fn route(
     delivery: &mut [u32],
     count: u32,
 ) -> u32
-    requires { ⌜ (StateFacts (now state)) × (grid ≡ gridIn (now state)) ⌝ }
-    requires { ⌜ (x < sxIn (now state)) × ((y < syIn (now state)) × (clockIn (now state) < 4294967295)) ⌝ }
-    requires { ⌜ Entrants (stateOf (now state)) (countIn (now state)) (now entrants) ⌝ }
+    requires { ⌜ Walking (now state) grid (now entrants) ⌝ }
+    requires { ⌜ (x < sxIn (now state)) × (y < syIn (now state)) ⌝ }
     requires { ⌜ registersIn (now state) ≤ length (now next) ⌝ }
-    requires { ⌜ (count < 256) × (5 * count + 5 ≤ length (now delivery)) ⌝ }
+    requires { ⌜ ExitRoom count 1 (now delivery) ⌝ }
     ensures { λ _. ⌜ now (next .exit) ≡ pushed (now (state .entry)) x y (now (next .entry)) ⌝ }
-    ensures { λ r. ⌜ r ≡ count + one (exits (stateOf (now (state .entry))) x y) ⌝ }
-    ensures { λ _. ⌜ now (delivery .exit) ≡ sets (now (delivery .entry)) (5 * count) (delivered (stateOf (now (state .entry))) x y) ⌝ }
+    ensures { λ r. ⌜ r ≡ count + length (delivered (stateOf (now (state .entry))) x y) ⌝ }
+    ensures { λ _. ⌜ now (delivery .exit) ≡ sets (now (delivery .entry)) (exitSize * count) (wordsOf (delivered (stateOf (now (state .entry))) x y)) ⌝ }
 {
     let sent = sent_at(state, x, y, entrants);
     let east = sent.east;
     let south = sent.south;
-    let exits = cycle::at_home(state, x, y, south);
+    let exits = cycle::exits(state, x, y, south);
     push_east(grid, x, y, east, next);
     push_south(grid, x, y, unless_exits(exits, south), next);
     deliver(exits, south, state[3], delivery, count)
@@ -232,14 +232,13 @@ fn route_row(
     delivery: &mut [u32],
     count: u32,
 ) -> u32
-    requires { ⌜ (StateFacts (now state)) × (grid ≡ gridIn (now state)) ⌝ }
-    requires { ⌜ (y < syIn (now state)) × (clockIn (now state) < 4294967295) ⌝ }
-    requires { ⌜ Entrants (stateOf (now state)) (countIn (now state)) (now entrants) ⌝ }
+    requires { ⌜ Walking (now state) grid (now entrants) ⌝ }
+    requires { ⌜ y < syIn (now state) ⌝ }
     requires { ⌜ registersIn (now state) ≤ length (now next) ⌝ }
-    requires { ⌜ (count + sxIn (now state) ≤ 256) × (5 * (count + sxIn (now state)) ≤ length (now delivery)) ⌝ }
+    requires { ⌜ ExitRoom count (sxIn (now state)) (now delivery) ⌝ }
     ensures { λ _. ⌜ now (next .exit) ≡ pushedRow (now (state .entry)) y (now (next .entry)) ⌝ }
-    ensures { λ r. ⌜ r ≡ count + rowExits (now (state .entry)) y ⌝ }
-    ensures { λ _. ⌜ now (delivery .exit) ≡ sets (now (delivery .entry)) (5 * count) (rowDelivers (now (state .entry)) y) ⌝ }
+    ensures { λ r. ⌜ r ≡ count + length (rowDelivers (now (state .entry)) y) ⌝ }
+    ensures { λ _. ⌜ now (delivery .exit) ≡ sets (now (delivery .entry)) (exitSize * count) (wordsOf (rowDelivers (now (state .entry)) y)) ⌝ }
 {
     let mut done = count;
     for x in 0..grid.sx {
@@ -255,13 +254,13 @@ fn route_row(
 // All routers, by row then column.
 pub fn route_all(state: &[u32], entrants: &[u32], next: &mut [u32], delivery: &mut [u32]) -> u32
     requires { ⌜ StateFacts (now state) ⌝ }
-    requires { ⌜ clockIn (now state) < 4294967295 ⌝ }
+    requires { ⌜ clockIn (now state) < lastClock ⌝ }
     requires { ⌜ Entrants (stateOf (now state)) (countIn (now state)) (now entrants) ⌝ }
     requires { ⌜ registersIn (now state) ≤ length (now next) ⌝ }
-    requires { ⌜ 5 * (sxIn (now state) * syIn (now state)) ≤ length (now delivery) ⌝ }
+    requires { ⌜ exitSize * (sxIn (now state) * syIn (now state)) ≤ length (now delivery) ⌝ }
     ensures { λ _. ⌜ now (next .exit) ≡ pushedAll (now (state .entry)) (now (next .entry)) ⌝ }
-    ensures { λ r. ⌜ r ≡ exitCount (stateOf (now (state .entry))) ⌝ }
-    ensures { λ _. ⌜ now (delivery .exit) ≡ sets (now (delivery .entry)) 0 (stepDelivers (stateOf (now (state .entry)))) ⌝ }
+    ensures { λ r. ⌜ r ≡ length (deliveries (stateOf (now (state .entry)))) ⌝ }
+    ensures { λ _. ⌜ now (delivery .exit) ≡ sets (now (delivery .entry)) 0 (wordsOf (deliveries (stateOf (now (state .entry))))) ⌝ }
 {
     let sy = state[1];
     let flows = state[2] as usize;

@@ -11,7 +11,7 @@ use lib.ListN.{length}
 use Rattle.laws.proofs.Cases.{test, passed}
 use Rattle.flow.specs.Plan.{Plan}
 use Rattle.book.specs.Book.{Book, waitingOf}
-use Rattle.book.specs.Cycle.{wordsOf}
+use Rattle.router.specs.Delivery.{wordsOf}
 use Rattle.flow.specs.Limits.{mostWaiting, offerNumber, stepNumber}
 use Rattle.book.specs.Calls.{Fed, judged, feed, refusal}
 use Rattle.book.specs.Calls as BookCalls
@@ -24,13 +24,13 @@ use Rattle.state.specs.Words.{stateWords}
 use Rattle.state.specs.Outcome.{Outcome, outcome, lent, unless, over}
 use Rattle.state.specs.Calls.{bytesOn, writeOn}
 use Rattle.cycle.specs.Offer.{offerState}
-use Rattle.cycle.specs.Step.{stepState, stepDelivers}
-use Rattle.cycle.specs.Calls.{exitCount, offerOn, stepOn}
+use Rattle.cycle.specs.Step.{stepState, deliveries}
+use Rattle.cycle.specs.Calls.{offerOn, stepOn}
 use Rattle.run.specs.View.{bookState}
 use Rattle.run.specs.List.{offer, step, write, onWords}
 use Rattle.run.proofs.View.{tally-at}
 use Rattle.run.proofs.Step.{step-follows}
-use Rattle.run.proofs.Delivery.{delivers-follow, count-follows}
+use Rattle.run.proofs.Delivery.{deliveries-follow}
 use Rattle.run.proofs.Offer.{offer-follows}
 use Rattle.run.proofs.Memory.{image, view, plan-is, image-again, number}
 
@@ -61,10 +61,11 @@ module _ (p : Plan) (b : Book) (k : Kept p b) (tail : List ℕ) where
   offer-by f (suc n) e = refl
 
   step-by : (delivery : List ℕ) (n : ℕ) → let s = bookState p b in let now : Fed = judged p b (BookCalls.step (length delivery)) n in
-      unless n (lent w delivery) (outcome (Done (exitCount s)) (lent (over (stateWords (stepState s)) w) (over (stepDelivers s) delivery)))
+      unless n (lent w delivery)
+      (outcome (Done (length (deliveries s))) (lent (over (stateWords (stepState s)) w) (over (wordsOf (deliveries s)) delivery)))
       ≡ outcome (now .reply) (lent (image p (now .book) tail) (over (wordsOf (now .delivered)) delivery))
   unfolding unless
-  step-by delivery zero = rw (step-follows p b k, delivers-follow p b k, count-follows p b k, image-again p b tail)
+  step-by delivery zero = rw (step-follows p b k, deliveries-follow p b k, image-again p b tail)
   step-by delivery (suc n) = refl
 
   pub offer-on : (f : ℕ) → let now : Fed = feed p b (BookCalls.offer f) in

@@ -1,91 +1,61 @@
--- What a cycle delivers on the state of a book is what the book delivers, in the same order (01, One cycle). Rests on Step.
+-- What a cycle on the state of a book delivers is what the book delivers, in the same order (01, One cycle). Rests on Outputs.
 use mathlib.Core.Bool.{true, _&&_, false≢true}
-use mathlib.Core.List.{List, [], _∷_, _++_, map}
-use mathlib.Core.Logic.{inl, inr}
-use mathlib.Core.Path.{_≡_, refl, sym, _∙_}
-use Prim.Native.Nat.{ℕ, _<_}
+use mathlib.Core.List.{List, [], _∷_, map, map-append, List·Memᴰ as Mem, List·Memᴰ·head as here}
+use mathlib.Core.Path.{_≡_, refl, sym, ap, _∙_}
+use Prim.Native.Nat.{ℕ, _≤_, _<_}
+use native.Mathlib.Omega.{arith}
 use borrow.Author.Tests.{eqb-true}
 use lib.Dec.{eqb}
 use lib.ListN.{length, length-map}
-use Rattle.laws.specs.Count.{one, keep, joinBelow}
-use Rattle.laws.proofs.Cases.{test}
-use Rattle.laws.proofs.Cases as Cases
-use Rattle.laws.proofs.Sum.{sum-same}
+use Rattle.laws.specs.Count.{keep, joinBelow}
+use Rattle.laws.proofs.Cases.{and-true}
 use Rattle.laws.proofs.Stands.{join-same}
-use Rattle.laws.proofs.Keep.{join-through, map-append, join-length}
-use Rattle.flow.specs.declared.Port.the-variants.{South}
-use Rattle.flow.specs.Plan.{Plan, flowAt}
-use Rattle.book.specs.Line.{Stage, waiting, placed, left, Line, leftAt, exitOf}
+use Rattle.laws.proofs.Keep.{kept, join-through}
+use Rattle.flow.specs.Plan.{Plan}
+use Rattle.router.specs.Rule.{leave}
+use Rattle.book.specs.Line.{Stage, waiting, placed, left, Line, leftAt, entryOf, exitOf}
 use Rattle.book.specs.Book.{Book}
-use Rattle.book.specs.Cycle.{move, stepped, Delivery, deliveryOf, exitsOf, deliveries, wordsOf}
-use Rattle.book.proofs.Traced.{line-ok}
-use Rattle.cycle.specs.Router.{atHome}
-use Rattle.cycle.specs.Step.{exits, delivered, stepDelivers}
-use Rattle.cycle.specs.Calls.{exitCount}
+use Rattle.book.specs.Cycle.{move, stepped, deliveryOf}
+use Rattle.book.specs.Cycle as Cycle
+use Rattle.book.proofs.Outputs.{outgoing, one-output}
+use Rattle.book.proofs.Sends.{departures}
 use Rattle.book.proofs.Kept.{Kept}
-use Rattle.run.specs.View.{bookState}
-use Rattle.run.proofs.Sends.{isHome, moved, left-tells}
-use Rattle.run.proofs.Step.{new-lines, southbound}
+use Rattle.cycle.specs.Step.{leaving, delivered, deliveries}
+use Rattle.run.specs.View.{holding, bookState}
+use Rattle.run.proofs.Outputs.{carries}
 
 left-exit : (c x y : ℕ) (s : Stage) → leftAt c x y s ≡ true → exitOf s ≡ c
 left-exit c x y waiting e = absurd (false≢true e)
 left-exit c x y (placed e′ at) e = absurd (false≢true e)
 left-exit c x y (left e′ t x′ y′) e =
-    eqb-true t c (Cases.and-true (eqb t c) (eqb x x′) (Cases.and-true (eqb t c && eqb x x′) (eqb y y′) e .0) .0)
+    eqb-true t c (and-true (eqb t c) (eqb x x′) (and-true (eqb t c && eqb x x′) (eqb y y′) e .0) .0)
 
-pub words-append : (d e : List Delivery) → wordsOf (d ++ e) ≡ wordsOf d ++ wordsOf e
-words-append [] e = refl
-words-append (x ∷ d) e = rw (words-append d e)
-
--- the lines that left there in the step, and what they deliver
-abbrev leavers : Plan → Book → (x y : ℕ) → List Line
-leavers p b x y = keep (λ l. leftAt (b .clock) x y (l .stage)) ((stepped p b) .lines)
+-- a packet that exits in cycle c delivers what its line does
+leaving-line : (c : ℕ) (ls : List Line) → length ls ≤ 1 → ((l : Line) → Mem l ls → exitOf (l .stage) ≡ c) → leaving c (holding ls) ≡ map deliveryOf ls
+leaving-line c [] h now = refl
+leaving-line c (l ∷ []) h now = sym (λ i. record { flow = l .flow; serial = l .serial; entry = entryOf (l .stage); exit = now l (here refl) i; D = l .D } ∷ [])
+leaving-line c (l ∷ m ∷ ls) h now = absurd (omega arith)
 
 module _ (p : Plan) (b : Book) (k : Kept p b) where
-  record Router (x y : ℕ) : Type 0 where
-    words : delivered (bookState p b) x y ≡ wordsOf (map deliveryOf (leavers p b x y))
-    count : one (exits (bookState p b) x y) ≡ length (leavers p b x y)
+  -- the lines that left there in the step
+  abbrev leavers : (x y : ℕ) → List Line
+  leavers x y = keep (λ l. leftAt (b .clock) x y (l .stage)) ((stepped p b) .lines)
 
-  router : (x y : ℕ) → x < p .sx → y < p .sy → Router x y
-  unfolding delivered bookState atHome
+  router : (x y : ℕ) → x < p .sx → y < p .sy → delivered (bookState p b) x y ≡ map deliveryOf (leavers x y)
+  unfolding delivered bookState
   router x y lx ly =
-      let tells = left-tells p (b .clock) x y lx ly in
-      let e = new-lines p b k x y South (leftAt (b .clock) x y) (isHome x y) tells in
-      elim (southbound p b k x y lx ly) [
-        | inl none ↦ record { words = rw (e, none .0, none .1); count = rw (e, none .0, none .1) }
-        | inr some ↦
-            let l : Line = some .0 in
-            let m = some .1 .member in
-            elim (test (isHome x y (flowAt p (l .flow)))) [
-              | inr away ↦
-                  record { words = rw (e, some .1 .only, some .1 .held, away); count = rw (e, some .1 .only, some .1 .held, away) }
-              | inl home ↦
-                  let gone : leftAt (b .clock) x y ((move p b l) .stage) ≡ true =
-                  moved p b x y South _ _ tells l (l .D) (l .stage) (line-ok p (k .lawful .plan) b (k .lawful .traced) l m) (k .lawful .traced .sound l m)
-                  ∙ rw (some .1 .sent, home) in
-                  let exit = left-exit (b .clock) x y ((move p b l) .stage) gone in
-                  record {
-                    words = rw (e, some .1 .only, some .1 .held, home, exit);
-                    count = rw (e, some .1 .only, some .1 .held, home);
-                  }
-            ]
-      ]
+      let gone = departures p b (k .lawful) x y in
+      ap (leaving (b .clock)) (carries p b k x y leave lx ly ∙ ap holding (sym gone))
+      ∙ leaving-line (b .clock) (leavers x y)
+      (rw (gone, length-map (outgoing p b x y leave) (move p b)) (one-output p b x y (k .apart) (k .lawful .queued) leave))
+      (λ l m. left-exit (b .clock) x y (l .stage) (kept (λ (z : Line). leftAt (b .clock) x y (z .stage)) ((stepped p b) .lines) m .1))
 
   -- routers by row then column
-  pub delivers-follow : stepDelivers (bookState p b) ≡ wordsOf (deliveries p b)
-  unfolding stepDelivers deliveries bookState
-  delivers-follow =
-      join-same (p .sy) _ _ (λ y ly. join-same (p .sx) _ _ (λ x lx. router x y lx ly .words) ∙ sym (through (p .sx) (λ x. leavers p b x y)))
-      ∙ sym (through (p .sy) (λ y. joinBelow (p .sx) (λ x. leavers p b x y)))
+  pub deliveries-follow : deliveries (bookState p b) ≡ Cycle.deliveries p b
+  unfolding deliveries Cycle.deliveries bookState
+  deliveries-follow =
+      join-same (p .sy) _ _ (λ y ly. join-same (p .sx) _ _ (λ x lx. router x y lx ly) ∙ sym (through (p .sx) (λ x. leavers x y)))
+      ∙ sym (through (p .sy) (λ y. joinBelow (p .sx) (λ x. leavers x y)))
     where
-      through : (n : ℕ) (f : ℕ → List Line) → wordsOf (map deliveryOf (joinBelow n f)) ≡ joinBelow n (λ i. wordsOf (map deliveryOf (f i)))
-      through n f =
-          join-through (λ ls. wordsOf (map deliveryOf ls)) refl (λ l m. rw (map-append deliveryOf l m, words-append (map deliveryOf l) (map deliveryOf m))) n f
-
-  -- the count of exits
-  pub count-follows : exitCount (bookState p b) ≡ length (deliveries p b)
-  unfolding exitCount deliveries bookState
-  count-follows =
-      sum-same _ _ (p .sy) (λ y ly. sum-same _ _ (p .sx) (λ x lx. router x y lx ly .count) ∙ sym (join-length (p .sx) (λ x. leavers p b x y)))
-      ∙ sym (join-length (p .sy) (λ y. joinBelow (p .sx) (λ x. leavers p b x y)))
-      ∙ sym (length-map (exitsOf p (b .clock) ((stepped p b) .lines)) deliveryOf)
+      through : (n : ℕ) (f : ℕ → List Line) → map deliveryOf (joinBelow n f) ≡ joinBelow n (λ i. map deliveryOf (f i))
+      through n f = join-through (map deliveryOf) refl (map-append deliveryOf) n f

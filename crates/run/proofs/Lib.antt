@@ -1,9 +1,5 @@
 -- The engine's definitions follow the packet book.
 pub mod View
-pub mod Entry
-pub mod Sends
-pub mod Outgoing
-pub mod Client
 pub mod Outputs
 pub mod Step
 pub mod Delivery

@@ -15,7 +15,9 @@ use Rattle.plan.specs.declared.Answer.{Answer}
 use Rattle.plan.specs.Layout.{planOf}
 use Rattle.plan.proofs.Ranges.{plan-ok}
 use Rattle.book.specs.Book.{Book, start}
-use Rattle.book.specs.Cycle.{Delivery, deliveries, wordsOf}
+use Rattle.router.specs.Delivery.{wordsOf}
+use Rattle.router.proofs.Delivery.{words-append, words-length}
+use Rattle.book.specs.Cycle.{deliveries}
 use Rattle.book.specs.Calls.{Call, Fed, feed, Run, runFrom, run}
 use Rattle.book.specs.Calls as BookCalls
 use Rattle.book.proofs.Kept.{Kept, feed-cases, kept-start, kept-feed, kept-run}
@@ -32,7 +34,6 @@ use Rattle.run.specs.List.{Asked, offer, step, write, reset, onWords, It
 use Rattle.run.specs.List.{MayCome, IsList, fedAs, fed, beside, outcomes, bookMemory, due, expected}
 use Rattle.run.specs.List.{fedOutcomes, wordCount, deliveredBy, EveryList}
 use Rattle.run.specs.View.{bookState}
-use Rattle.run.proofs.Delivery.{words-append}
 use Rattle.run.proofs.Offer.{start-follows}
 use Rattle.run.proofs.Memory.{image, image-part, image-rest, number, short}
 use Rattle.run.proofs.Calls.{offer-on, step-on, write-on}
@@ -40,11 +41,6 @@ use Rattle.run.proofs.Reset.{reset-refused}
 
 abbrev answers : List (Outcome Answer (List ℕ)) → List Answer
 answers os = map (λ (o : Outcome Answer (List ℕ)). o .answer) os
-
--- five words for each delivery
-words-length : (ds : List Delivery) → length (wordsOf ds) ≡ 5 * length ds
-words-length [] = refl
-words-length (d ∷ ds) = omega (arith, words-length ds)
 
 -- the words that a fed call's answer counts are those that the book delivers
 fed-words : (p : Plan) (b : Book) (c : Call) (other : List ℕ) → let now : Fed = feed p b c in

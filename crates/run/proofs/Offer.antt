@@ -11,7 +11,7 @@ use lib.Dec.{eqb}
 use lib.ListN.{length, getD, set, length-set}
 use lib.Seq.{getD-set-same, getD-set-other}
 use Rattle.laws.specs.Bounded.{tabulate}
-use Rattle.laws.specs.Count.{one, keep}
+use Rattle.laws.specs.Count.{one}
 use Rattle.laws.proofs.Bounded.{length-tabulate, getD-tabulate, is-tabulate}
 use Rattle.laws.proofs.Count.{count-append}
 use Rattle.laws.proofs.Keep.{keep-append}
@@ -19,12 +19,14 @@ use Rattle.laws.proofs.Grid.{tabulate-same, grid-same}
 use Rattle.flow.specs.Plan.{Plan, flowAt}
 use Rattle.bucket.specs.Regulator.{fullBucket}
 use Rattle.place.specs.Place.{Place, W, N}
+use Rattle.book.specs.Line.{standsIn}
+use Rattle.book.specs.Cycle.{linesIn}
 use Rattle.book.specs.Book.{Book, bucketAt, start, waitsFor, waitingOf, enteredOf, offeredLine, offered}
 use Rattle.book.proofs.Queue.{entered-offer}
 use Rattle.state.specs.declared.Tally.{Tally}
 use Rattle.state.specs.State.{freshTally, resetState}
 use Rattle.cycle.specs.Offer.{offerState}
-use Rattle.run.specs.View.{holding, placedIn, registerOf, cellOf, tallyOf, bookState}
+use Rattle.run.specs.View.{holding, registerOf, cellOf, tallyOf, bookState}
 use Rattle.run.proofs.View.{tally-at}
 
 pub start-follows : (p : Plan) → bookState p (start p) ≡ resetState p
@@ -42,7 +44,7 @@ module _ (p : Plan) (b : Book) (f : ℕ) (below : f < length (p .flows)) where
   -- a waiting line has no place
   offer-register : (at : Place) → registerOf b at ≡ registerOf (offered b f) at
   unfolding registerOf
-  offer-register at = ap holding (sym (keep-append (placedIn at) (b .lines) (offeredLine b f ∷ []) ∙ append-nil (keep (placedIn at) (b .lines))))
+  offer-register at = ap holding (sym (keep-append (λ l. standsIn at (l .stage)) (b .lines) (offeredLine b f ∷ []) ∙ append-nil (linesIn b at)))
 
   -- one more waiting
   waiting-offer : (g : ℕ) → waitingOf (offered b f) g ≡ waitingOf b g + one (eqb f g)

@@ -1,117 +1,132 @@
--- What a router sends by its outputs is the line that the book sends there, at most one (01, One cycle, rules 1 and 3). Rests on
--- Outgoing and Client.
-use mathlib.Core.Bool.{Bool, true, false, cond, _&&_, _||_, false≢true, and-true, and-false, or-false}
-use mathlib.Core.List.{map, List·Memᴰ as Mem}
+-- What a way out of a router carries is the packet of the line that the book sends there, if any (01, One cycle, rules 1 and 3). Rests on
+-- View and the book's Outputs.
+use mathlib.Core.Bool.{Bool, true, false, _&&_, false≢true}
+use mathlib.Core.List.{List, [], _∷_, map, List·Memᴰ as Mem, List·Memᴰ·head as here}
 use mathlib.Core.Logic.{inl, inr}
-use mathlib.Core.Path.{_≡_, refl, sym, _∙_}
-use Prim.Native.Nat.{ℕ, _<_}
-use Rattle.flow.specs.Offsets.{samePort}
-use Rattle.laws.proofs.Cases.{test}
-use Rattle.laws.proofs.Cases as Cases
-use Rattle.laws.proofs.Count.{any-mem}
-use Rattle.laws.proofs.Keep.{keep-same}
-use Rattle.flow.specs.declared.Port.{Port}
-use Rattle.flow.specs.declared.Port.the-variants.{East, South}
-use Rattle.flow.specs.Plan.{Plan}
-use Rattle.place.specs.Place.{Place, W, N}
-use Rattle.book.specs.Line.{Line}
-use Rattle.book.specs.Book.{Book}
-use Rattle.book.specs.Cycle.{full, westTurns, deflects, leavesBy, move}
-use Rattle.state.specs.declared.Register.{Register}
-use Rattle.state.specs.declared.Register.the-variants.{Empty, Packet}
-use Rattle.cycle.specs.Router.{isEmpty, firstOf, sentEast, sentSouth}
-use Rattle.cycle.specs.Entry.{clientSends}
-use Rattle.cycle.specs.Step.{eastward, southward}
+use mathlib.Core.Option.{Option}
+use mathlib.Core.Path.{_≡_, refl, sym, ap, _∙_}
+use Prim.Native.Nat.{ℕ, _+_, _<_}
+use native.Mathlib.Nat.{add-zero}
+use native.Mathlib.Omega.{arith}
+use borrow.Author.Tests.{eq-eqb, eqb-true}
+use lib.ListN.{length}
+use Rattle.laws.specs.Count.{one, count, keep}
+use Rattle.laws.proofs.Cases.{test, and-true, both-eqb}
+use Rattle.laws.proofs.Count.{count-find}
+use Rattle.laws.proofs.Keep.{kept, keep-one}
+use Rattle.flow.specs.declared.Flow.{Flow}
+use Rattle.flow.specs.Plan.{Plan, flowAt}
+use Rattle.place.specs.Place.{Place, W, N, columnOf, rowOf}
+use Rattle.router.specs.Rule.{deflects, Way, sameWay, takes, entrant, isFlow, wayIn}
+use Rattle.router.proofs.Links.{place-same}
+use Rattle.router.proofs.Entrant.{Found, no-entrant, has-entrant, found, enters-at}
+use Rattle.book.specs.Line.{Stage, waiting, placed, left, Line, isWaiting, standsIn, entryOf}
+use Rattle.book.specs.Book.{Book, ofFlow, enteredOf}
+use Rattle.book.specs.Cycle.{linesIn, seen, view, enters, isDeflected, lowest, moveStage, move}
+use Rattle.book.proofs.Moves.{goes, sent-entry, Turn, keeps, stays, comes, turn}
+use Rattle.book.proofs.Queue.{lowest-next, goes-count}
+use Rattle.book.proofs.Traced.{Sound}
+use Rattle.book.proofs.Outputs.{outgoing, entrantsOf, leaving}
 use Rattle.book.proofs.Kept.{Kept}
-use Rattle.book.proofs.Entries.{turns-some}
-use Rattle.book.proofs.Outputs.{client}
-use Rattle.run.specs.View.{holding, placedIn, registerOf, bookState}
-use Rattle.run.proofs.View.{cell-at, empty-register, west-turns, line-turns}
-use Rattle.run.proofs.Outgoing.{outgoing, onward, network, closed, split}
-use Rattle.run.proofs.Client.{entrant}
+use Rattle.state.specs.declared.Register.the-variants.{Empty, Packet}
+use Rattle.cycle.specs.Step.{onward, entering, sendsBy, sentBy, carried}
+use Rattle.run.specs.View.{packetOf, holding, registerOf, bookState}
+use Rattle.run.proofs.View.{tally-at, cell-at, seen-same, entrants-agree}
 
--- the packet that the router in column x and row y sends by port o in the book
-abbrev pub sentPacket : Plan → Book → (x y : ℕ) → Port → Register
-sentPacket p b x y o = holding (map (move p b) (outgoing p b x y o))
+module _ (p : Plan) (b : Book) (l : Line) where
+  -- a placed line's step, as a register has it
+  stage-moves : (at : Place) (s : Stage) → standsIn at s ≡ true
+      → (isDeflected p b s ≡ deflects (seen p b (columnOf at) (rowOf at)) at) × (entryOf (moveStage p b l s) ≡ entryOf s)
+  stage-moves at waiting e = absurd (false≢true e)
+  stage-moves at (placed e′ here′) e =
+      (ap (λ (a : Place). deflects (seen p b (columnOf a) (rowOf a)) a) (place-same at here′ e), sent-entry p _ _ _ _ _)
+  stage-moves at (left e′ t x y) e = absurd (false≢true e)
 
-first-full : (r c : Register) → isEmpty r ≡ false → firstOf r c ≡ r
-first-full Empty c e = absurd (false≢true (sym e))
-first-full (Packet flow serial entry deflections) c e = refl
+  onward-is : (flow serial entry D : ℕ) (d : Bool) → Packet flow serial entry (D + one d) ≡ onward d (Packet flow serial entry D)
+  onward-is flow serial entry D true = refl
+  onward-is flow serial entry D false = rw add-zero
 
-first-empty : (r c : Register) → isEmpty r ≡ true → firstOf r c ≡ c
-first-empty Empty c e = refl
-first-empty (Packet flow serial entry deflections) c e = absurd (false≢true e)
+  packet-moves : (at : Place) → standsIn at (l .stage) ≡ true → packetOf (move p b l) ≡ onward (deflects (seen p b (columnOf at) (rowOf at)) at) (packetOf l)
+  packet-moves at e =
+      let h = stage-moves at (l .stage) e in
+      (λ i. Packet (l .flow) (l .serial) (h .1 i) (l .D + one (h .0 i)))
+      ∙ onward-is (l .flow) (l .serial) (entryOf (l .stage)) (l .D) (deflects (seen p b (columnOf at) (rowOf at)) at)
 
-module _ (p : Plan) (b : Book) (k : Kept p b) (x y : ℕ) where
-  -- the register whose packet takes an output if W goes S, and the one whose packet takes it if W doesn't
-  abbrev turned : Port → Place
-  turned East = N x y
-  turned South = W x y
+-- the line in a register, after the step
+network : (p : Plan) (b : Book) (at : Place)
+    → onward (deflects (seen p b (columnOf at) (rowOf at)) at) (registerOf b at) ≡ holding (map (move p b) (linesIn b at))
+unfolding registerOf
+network p b at = sends (linesIn b at) (λ l m. kept (λ (z : Line). standsIn at (z .stage)) (b .lines) m .1)
+  where
+    empty : (d : Bool) → onward d Empty ≡ Empty
+    empty true = refl
+    empty false = refl
 
-  abbrev straight : Port → Place
-  straight East = W x y
-  straight South = N x y
+    sends : (ls : List Line) → ((l : Line) → Mem l ls → standsIn at (l .stage) ≡ true)
+        → onward (deflects (seen p b (columnOf at) (rowOf at)) at) (holding ls) ≡ holding (map (move p b) ls)
+    sends [] inside = empty (deflects (seen p b (columnOf at) (rowOf at)) at)
+    sends (l ∷ ls) inside = sym (packet-moves p b l at (inside l (here refl)))
 
-  -- W is full where it goes S
-  turning-full : westTurns p b x y ≡ true → full b (W x y) ≡ true
-  turning-full t = let l = turns-some p b x y t in any-mem (placedIn (W x y)) (b .lines) (l .1) (Cases.and-true _ _ (l .2) .0)
+-- a waiting line has no deflection, and gets none
+waits-fresh : (p : Plan) (b : Book) (f : Flow) (c D : ℕ) (s : Stage) → isWaiting s ≡ true → Sound p f c D s → D + one (isDeflected p b s) ≡ 0
+waits-fresh p b f c D waiting w h = rw (add-zero, h)
+waits-fresh p b f c D (placed e at) w h = absurd (false≢true w)
+waits-fresh p b f c D (left e t x y) w h = absurd (false≢true w)
 
-  absent : (at : Place) → full b at ≡ false → (l : Line) → Mem l (b .lines) → placedIn at l ≡ false
-  absent at none l m =
-      elim (test (placedIn at l)) [ inr e ↦ e | inl e ↦ absurd (false≢true (sym none ∙ any-mem (placedIn at) (b .lines) m e)) ]
+module _ (p : Plan) (b : Book) (k : Kept p b) where
+  -- the packet of a line that enters
+  packet-enters : (l : Line) → Mem l (b .lines) → goes p b l ≡ true → packetOf (move p b l) ≡ Packet (l .flow) (enteredOf b (l .flow) + 1) (b .clock) 0
+  packet-enters l m g =
+      let w = and-true (isWaiting (l .stage)) (enters p b (l .flow) && lowest b l) g in
+      let low = and-true (enters p b (l .flow)) (lowest b l) (w .1) .1 in
+      let serial = eqb-true (l .serial) (enteredOf b (l .flow) + 1) (sym (lowest-next b (k .lawful .queued) l m (w .0)) ∙ low) in
+      let D = waits-fresh p b (flowAt p (l .flow)) (b .clock) (l .D) (l .stage) (w .0) (k .lawful .traced .sound l m) in
+      let entry = new-entry (turn p b l) in
+      λ i. Packet (l .flow) (serial i) (entry i) (D i)
+    where
+      new-entry : Turn p b l → entryOf ((move p b l) .stage) ≡ b .clock
+      new-entry (keeps w w′ e g′) = absurd (false≢true (sym g′ ∙ g))
+      new-entry (stays w w′ g′) = absurd (false≢true (sym g′ ∙ g))
+      new-entry (comes w w′ e g′) = e
 
-  parts : (o : Port) (l : Line) → Mem l (b .lines)
-      → leavesBy p b x y o l
-      ≡ (placedIn (W x y) l && samePort (cond (westTurns p b x y) South East) o)
-      || (placedIn (N x y) l && samePort (cond (westTurns p b x y) East South) o)
-      || client p b x y o l
-  parts o l m = split p b x y o l (l .stage) (λ e. line-turns p b (k .apart) x y l m e)
+  -- where flow f enters, one line does, with the packet that its client sends
+  entering-line : (f : ℕ) → f < length (p .flows) → enters p b f ≡ true
+      → entering (bookState p b) f ≡ holding (map (move p b) (keep (λ l. ofFlow f l && goes p b l) (b .lines)))
+  unfolding bookState
+  entering-line f below en =
+      let t : Line → Bool = λ l. ofFlow f l && goes p b l in
+      let c : count t (b .lines) ≡ 1 = goes-count b (k .lawful .queued) p f ∙ ap one en in
+      let l = count-find t (b .lines) (omega arith) in
+      let h = and-true (ofFlow f (l .0)) (goes p b (l .0)) (l .2) in
+      rw (keep-one t (b .lines) (omega arith) (l .0) (l .1) (l .2), tally-at p b f below)
+      (sym (packet-enters (l .0) (l .1) (h .1) ∙ rw (eqb-true (l .0 .flow) f (h .0))))
 
-  -- who leaves by an output
-  by-turned : (o : Port) → westTurns p b x y ≡ true → (l : Line) → Mem l (b .lines) → leavesBy p b x y o l ≡ placedIn (turned o) l
-  by-turned East t l m = parts East l m ∙ rw (t, closed p b x y East (rw (turning-full t)) l, and-false, and-true, or-false)
-  by-turned South t l m = parts South l m ∙ rw (t, closed p b x y South (rw (t, and-false)) l, and-false, and-true, or-false, or-false)
+  -- what a client sends
+  client : (x y : ℕ) (o : Way) → sendsBy (bookState p b) o (entrant p (view p b) x y) ≡ holding (map (move p b) (entrantsOf p b o (entrant p (view p b) x y)))
+  unfolding sendsBy bookState
+  client x y o = by-entrant refl (found p (view p b) x y)
+    where
+      by-entrant : {e : Option ℕ} → entrant p (view p b) x y ≡ e → Found p (view p b) x y e
+          → sendsBy (bookState p b) o e ≡ holding (map (move p b) (entrantsOf p b o e))
+      by-entrant e (no-entrant low) = refl
+      by-entrant e (has-entrant f h) =
+          let at = both-eqb x ((flowAt p f) .xs) y ((flowAt p f) .ys) (h .column) (h .row) in
+          let en = enters-at p (view p b) x y f at ∙ ap (isFlow f) e ∙ eq-eqb f f refl in
+          elim (test (sameWay (wayIn p f) o)) [ inl way ↦ rw way (entering-line f (h .below) en) | inr way ↦ rw way ]
 
-  by-straight : (o : Port) → westTurns p b x y ≡ false → full b (straight o) ≡ true → (l : Line) → Mem l (b .lines) → leavesBy p b x y o l ≡ placedIn (straight o) l
-  by-straight East t f l m = parts East l m ∙ rw (t, closed p b x y East (rw f) l, and-false, and-true, or-false, or-false)
-  by-straight South t f l m = parts South l m ∙ rw (t, closed p b x y South (rw f) l, and-false, and-true, or-false)
+  module _ (x y : ℕ) (o : Way) where
+    -- the packet that takes a way out, of the three that the book's router has
+    by-source : sentBy (seen p b x y) x y o (registerOf b (W x y)) (registerOf b (N x y)) (sendsBy (bookState p b) o (entrant p (view p b) x y))
+        ≡ holding (map (move p b) (outgoing p b x y o))
+    unfolding sentBy
+    by-source =
+        rw (leaving p b x y (k .apart) o)
+        (elim (test (takes (seen p b x y) (W x y) o)) [
+          | inl w ↦ rw w (network p b (W x y))
+          | inr w ↦ elim (test (takes (seen p b x y) (N x y) o)) [ inl n ↦ rw (w, n) (network p b (N x y)) | inr n ↦ rw (w, n) (client x y o) ]
+        ])
 
-  by-client : (o : Port) → westTurns p b x y ≡ false → full b (straight o) ≡ false → (l : Line) → Mem l (b .lines) → leavesBy p b x y o l ≡ client p b x y o l
-  by-client East t f l m = parts East l m ∙ rw (t, absent (W x y) f l m, and-false)
-  by-client South t f l m = parts South l m ∙ rw (t, absent (N x y) f l m, and-false)
-
-  -- a packet that goes straight isn't deflected
-  undeflected : (o : Port) → westTurns p b x y ≡ false → deflects p b (straight o) ≡ false
-  undeflected East t = refl
-  undeflected South t = t
-
-  -- the line in one register takes the output
-  takes : (o : Port) (at : Place) (d : Bool) → deflects p b at ≡ d → ((l : Line) → Mem l (b .lines) → leavesBy p b x y o l ≡ placedIn at l)
-      → onward d (registerOf b at) ≡ sentPacket p b x y o
-  takes o at d e same = rw (keep-same (leavesBy p b x y o) (placedIn at) (b .lines) same, ← e) (sym (network p b at))
-
-  -- what an output carries, for either port
-  carries : (o : Port) (d : Bool) → (westTurns p b x y ≡ true → deflects p b (turned o) ≡ d)
-      → cond (westTurns p b x y) (onward d (registerOf b (turned o))) (firstOf (registerOf b (straight o)) (clientSends (bookState p b) x y o)) ≡ sentPacket p b x y o
-  carries o d e =
-      let r = registerOf b (straight o) in
-      let c = clientSends (bookState p b) x y o in
-      elim (test (westTurns p b x y)) [
-        | inl t ↦ rw t (takes o (turned o) d (e t) (by-turned o t))
-        | inr t ↦ elim (test (full b (straight o))) [
-          | inl f ↦
-              rw (t, first-full r c (empty-register p b (straight o) ∙ rw f))
-              (takes o (straight o) false (undeflected o t) (by-straight o t f))
-          | inr f ↦
-              rw (t, first-empty r c (empty-register p b (straight o) ∙ rw f))
-              (rw (keep-same (leavesBy p b x y o) (client p b x y o) (b .lines) (by-client o t f)) (entrant p b k x y o))
-        ]
-      ]
-
-  pub east : x < p .sx → y < p .sy → eastward (bookState p b) x y ≡ sentPacket p b x y East
-  unfolding eastward sentEast bookState
-  east lx ly = rw (cell-at p b x y lx ly, west-turns p b (k .apart) x y) (carries East true (λ t. t))
-
-  pub south : x < p .sx → y < p .sy → southward (bookState p b) x y ≡ sentPacket p b x y South
-  unfolding southward sentSouth bookState
-  south lx ly = rw (cell-at p b x y lx ly, west-turns p b (k .apart) x y) (carries South false (λ t. refl))
+    -- and that the state's router has
+    pub carries : x < p .sx → y < p .sy → carried (bookState p b) x y o ≡ holding (map (move p b) (outgoing p b x y o))
+    unfolding carried bookState
+    carries l m = rw (seen-same p b x y l m, cell-at p b x y l m, entrants-agree p b (k .lawful .plan) x y) by-source

@@ -14,7 +14,7 @@ use Rattle.plan.specs.declared.Answer.the-variants.{Done, Refused}
 use Rattle.plan.specs.Layout.{planOf}
 use Rattle.plan.specs.Written.{planBytes}
 use Rattle.book.specs.Book.{Book, start}
-use Rattle.book.specs.Cycle.{wordsOf}
+use Rattle.router.specs.Delivery.{wordsOf}
 use Rattle.book.specs.Calls.{Call, feed, runFrom, run}
 use Rattle.book.specs.Calls as BookCalls
 use Rattle.book.specs.Promises.{Promises}

@@ -1,15 +1,14 @@
 -- The state that a packet book has: every word of it is the book's (01, The packet book).
-use mathlib.Core.Bool.{Bool}
 use mathlib.Core.List.{List, [], _∷_}
 use Prim.Native.Nat.{ℕ}
 use lib.ListN.{length}
 use Rattle.laws.specs.Bounded.{tabulate}
-use Rattle.laws.specs.Count.{keep}
 use Rattle.laws.specs.Grid.{grid}
 use Rattle.flow.specs.Plan.{Plan}
 use Rattle.place.specs.Place.{Place, W, N}
-use Rattle.book.specs.Line.{Line, standsIn, entryOf}
+use Rattle.book.specs.Line.{Line, entryOf}
 use Rattle.book.specs.Book.{Book, bucketAt, waitingOf, enteredOf}
+use Rattle.book.specs.Cycle.{linesIn}
 use Rattle.state.specs.declared.Register.{Register}
 use Rattle.state.specs.declared.Register.the-variants.{Empty, Packet}
 use Rattle.state.specs.declared.Tally.{Tally}
@@ -25,13 +24,9 @@ abbrev pub holding : List Line → Register
 holding [] = Empty
 holding (l ∷ ls) = packetOf l
 
--- the line's place is this register
-abbrev pub placedIn : Place → Line → Bool
-placedIn at l = standsIn at (l .stage)
-
 -- a register holds the line placed there or is empty
 unfoldable pub registerOf : Book → Place → Register
-registerOf b at = holding (keep (placedIn at) (b .lines))
+registerOf b at = holding (linesIn b at)
 
 abbrev pub cellOf : Book → (x y : ℕ) → Cell
 cellOf b x y = record { west = registerOf b (W x y); north = registerOf b (N x y) }

@@ -1,6 +1,6 @@
 -- `turns_south`: the definition's own cases.
 use borrow.Author.Needs.{needs}
-use Rattle.cycle.specs.Router.{turnsSouth}
+use Rattle.router.specs.Rule.{turnsSouth}
 use Rattle.cycle.proofs.turns_south.Statement.{statement}
 use Rattle.cycle.proofs.turns_south.Tie as tie
 

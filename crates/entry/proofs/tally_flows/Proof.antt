@@ -9,7 +9,7 @@ use Rattle.laws.proofs.Turns.{turns-none, turns-more}
 use Rattle.flow.specs.Plan.{flowAt}
 use Rattle.state.specs.State.{tallyAt}
 use Rattle.state.specs.Read.{countIn, stateOf}
-use Rattle.cycle.specs.Entry.{enters}
+use Rattle.cycle.specs.Seen.{enters}
 use Rattle.cycle.proofs.Facts.{flow-ok, tally-ok}
 use Rattle.entry.specs.Entrants.{tallied}
 use Rattle.entry.proofs.Entrant.{enters-has, next-tally}

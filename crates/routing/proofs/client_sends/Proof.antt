@@ -9,10 +9,11 @@ use Rattle.flow.specs.Plan.{flowAt}
 use Rattle.state.specs.declared.Register.the-variants.{Empty}
 use Rattle.state.specs.State.{State}
 use Rattle.state.specs.Read.{planIn, stateOf}
-use Rattle.cycle.specs.Entry.{entering}
-use Rattle.routing.specs.Sent.{sentBy}
-use Rattle.entry.specs.Entrants.{sendsBy}
+use Rattle.cycle.specs.Step.{entering}
+use Rattle.cycle.specs.Sent.{enteringBy}
 use Rattle.cycle.proofs.Facts.{flow-ok, tally-ok}
+use Rattle.entry.specs.Entrants.{entrantIn}
+use Rattle.routing.specs.Sent.{clientSends}
 use Rattle.routing.proofs.client_sends.Statement.{statement}
 use Rattle.routing.proofs.client_sends.Tie as tie
 
@@ -21,29 +22,32 @@ number : (who : ℕ) → (who ≡ 0 → ⊥) → who ≡ suc (who - 1)
 number who some = omega arith
 
 module _ (s : State) (who f : ℕ) (named : who ≡ suc f) where
-  by-east : portOf (s .plan .sx) (flowAt (s .plan) f) ≡ East → record { east = entering s f; south = Empty } ≡ sentBy s who
-  unfolding sendsBy
+  by-east : portOf (s .plan .sx) (flowAt (s .plan) f) ≡ East → record { east = entering s f; south = Empty } ≡ clientSends s (entrantIn who)
+  unfolding enteringBy entrantIn
   by-east port = rw (named, port)
 
-  by-south : portOf (s .plan .sx) (flowAt (s .plan) f) ≡ South → record { east = Empty; south = entering s f } ≡ sentBy s who
-  unfolding sendsBy
+  by-south : portOf (s .plan .sx) (flowAt (s .plan) f) ≡ South → record { east = Empty; south = entering s f } ≡ clientSends s (entrantIn who)
+  unfolding enteringBy entrantIn
   by-south port = rw (named, port)
 
 returns : tie.Need-returns
-unfolding sendsBy
+unfolding enteringBy entrantIn
 returns c = rw (c .if1 .taken)
+
+abbrev start : tie.After-tally-at → tie.Start
+start c = c .before .before .before .before
 
 add-port : tie.Need-add-port
 add-port c =
-    let start = c .before .before .before .before .before in
-    let ok = tally-ok _ (start .pre .0) (start .args .who - 1) (omega arith) in
+    let begin = start (c .before) in
+    let ok = tally-ok _ (begin .pre .0) (begin .args .who - 1) (omega arith) in
     rw (c .before .tally-at .ensures) (omega arith)
 
 port-requires : tie.Need-port-requires
 port-requires c κs =
-    let start = c .before .before .before .before .before .before .before in
-    let ok = flow-ok _ (start .pre .0) (start .args .who - 1) (omega arith) in
-    rw (c .before .before .before .before .flow-at .ensures) (omega arith)
+    let at = c .before .before .before in
+    let ok = flow-ok _ (start at .pre .0) (start at .args .who - 1) (omega arith) in
+    rw (at .before .flow-at .ensures) (omega arith)
 
 returns-2 : tie.Need-returns-2
 unfolding stateOf planIn

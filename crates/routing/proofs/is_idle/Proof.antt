@@ -1,82 +1,98 @@
 -- `is_idle`: the definition's own tests.
-use mathlib.Core.Path.{_≡_, sym, _∙_}
-use Prim.Native.Nat.{_+_, _*_}
+use mathlib.Core.Bool.{true}
+use mathlib.Core.Path.{_≡_, refl, sym, ap, _∙_}
+use Prim.Native.Nat.{ℕ, zero, suc, _+_, _*_}
 use borrow.Author.Needs.{needs}
 use borrow.Author.Tests.{eq-eqb, ne-eqb}
 use native.Mathlib.Omega.{arith}
-use lib.ListN.{length, getD}
+use lib.Dec.{eqb}
+use lib.ListN.{getD}
 use Rattle.laws.specs.Grid.{cellIndex}
 use Rattle.laws.proofs.Cases.{told-not, told-not′}
+use Rattle.router.specs.Rule.{entrant}
 use Rattle.state.specs.Layout.{routerSize}
 use Rattle.state.specs.State.{cellAt}
 use Rattle.state.specs.Read.{sxIn, routerIn, stateOf}
-use Rattle.state.proofs.View.{view-count, view-cell}
+use Rattle.state.proofs.View.{view-cell}
+use Rattle.cycle.specs.Seen.{view}
 use Rattle.cycle.proofs.Facts.{router-fits}
-use Rattle.entry.specs.Entrants.{entrant}
-use Rattle.entry.proofs.Clients.{entrant-fits, entrant-found}
+use Rattle.entry.specs.Entrants.{entrantIn}
+use Rattle.entry.proofs.Clients.{entrant-fits, entrant-all}
+use Rattle.routing.specs.Sent.{isNone}
 use Rattle.routing.proofs.is_idle.Statement.{statement}
 use Rattle.routing.proofs.is_idle.Tie as tie
+
+-- nobody enters where the word is 0
+nobody : (word : ℕ) → isNone (entrantIn word) ≡ eqb word 0
+unfolding entrantIn
+nobody zero = refl
+nobody (suc f) = sym (ne-eqb (suc f) 0 (λ e. omega arith))
 
 router-index-requires : tie.Need-router-index-requires
 router-index-requires c κs =
     let p = c .before .before .pre in
-    let sizes = p .0 .0 .header in
-    rw (p .0 .1) (omega arith)
+    let sizes = p .0 .facts .header in
+    rw (p .0 .grid) (omega arith)
 
 -- the router's place among all
 index : (c : tie.After-router-index) → let a = c .before .before .before .args in c .router-index .result ≡ cellIndex (sxIn (a .state .now)) (a .x) (a .y)
-index c = c .router-index .ensures .0 ∙ rw (c .before .before .before .pre .0 .1)
+index c = c .router-index .ensures .0 ∙ rw (c .before .before .before .pre .0 .grid)
 
 shared-slice-read-if1 : tie.Need-shared-slice-read-if1
 shared-slice-read-if1 c =
     let p = c .before .before .before .before .pre in
-    rw (index (c .before)) (entrant-fits _ (p .0 .0) _ _ (p .1 .1) _ _ (p .1 .0 .0) (p .1 .0 .1))
+    rw (index (c .before)) (entrant-fits _ (p .0 .facts) _ _ (p .0 .all-entrants) _ _ (p .1 .0) (p .1 .1))
 
--- its client's entrant
-found : (c : tie.After-router-index) → let a = c .before .before .before .args in
-    entrant (stateOf (a .state .now)) (a .x) (a .y) (length ((stateOf (a .state .now)) .plan .flows)) ≡ getD (a .entrants .now) (c .router-index .result) 0
-unfolding stateOf
+-- whether nobody enters there
+found : (c : tie.After-router-index) → let a = c .before .before .before .args in let s = stateOf (a .state .now) in
+    isNone (entrant (s .plan) (view s) (a .x) (a .y)) ≡ eqb (getD (a .entrants .now) (c .router-index .result) 0) 0
 found c =
-    let start = c .before .before .before in
-    let p = start .pre in
-    rw (index c, view-count (start .args .state .now), entrant-found _ (p .0 .0) _ _ (p .1 .1) _ _ (p .1 .0 .0) (p .1 .0 .1))
+    let p = c .before .before .before .pre in
+    rw (index c) (ap isNone (sym (entrant-all _ (p .0 .facts) _ (p .0 .all-entrants) _ _ (p .1 .0) (p .1 .1))) ∙ nobody _)
 
 -- where its registers stand
-place : (c : tie.After-router-index) → let a = c .before .before .before .args in a .grid .registers + routerSize * c .router-index .result ≡ routerIn (a .state .now) (a .x) (a .y)
-place c = rw (index c, c .before .before .before .pre .0 .1)
+place : (c : tie.After-router-index) → let a = c .before .before .before .args in
+    a .grid .registers + routerSize * c .router-index .result ≡ routerIn (a .state .now) (a .x) (a .y)
+place c = rw (index c, c .before .before .before .pre .0 .grid)
 
 add-cell-in : tie.Need-add-cell-in
 add-cell-in c =
-    let p = c .before .before .before .before .before .before .pre .0 in
-    let count = p .0 .header .count-most in
-    rw (p .1) (omega (arith, c .before .before .before .router-index .ensures .1))
+    let at = c .before .before .before in
+    let p = at .before .before .before .pre .0 in
+    let count = p .facts .header .count-most in
+    rw (p .grid) (omega (arith, at .router-index .ensures .1))
 
 cell-in-requires : tie.Need-cell-in-requires
 cell-in-requires c κs =
-    let p = c .before .before .before .before .before .before .pre in
-    rw (place (c .before .before .before)) (router-fits _ (p .0 .0) _ _ (p .1 .0 .0) (p .1 .0 .1))
+    let at = c .before .before .before in
+    let p = at .before .before .before .pre in
+    rw (place at) (router-fits _ (p .0 .facts) _ _ (p .1 .0) (p .1 .1))
 
-cell : (c : tie.After-cell-in) → let a = c .before .before .before .before .before .before .before .args in cellAt (stateOf (a .state .now)) (a .x) (a .y) ≡ c .cell-in .result
+-- its registers
+cell : (c : tie.After-cell-in) → let at = c .before .before .before .before in let a = at .before .before .before .args in
+    cellAt (stateOf (a .state .now)) (a .x) (a .y) ≡ c .cell-in .result
 cell c =
-    let start = c .before .before .before .before .before .before .before in
-    let p = start .pre in
-    view-cell _ _ _ (p .1 .0 .0) (p .1 .0 .1) ∙ sym (c .cell-in .ensures ∙ rw (place (c .before .before .before .before)))
+    let at = c .before .before .before .before in
+    let p = at .before .before .before .pre in
+    view-cell _ _ _ (p .1 .0) (p .1 .1) ∙ sym (c .cell-in .ensures ∙ rw (place at))
 
 returns : tie.Need-returns
 returns c = rw (found (c .before .before), ne-eqb _ _ (c .if1 .taken))
 
+-- nobody enters
+unentered : (c : tie.After-cell-in) → let at = c .before .before .before .before in let a = at .before .before .before .args in
+    let s = stateOf (a .state .now) in isNone (entrant (s .plan) (view s) (a .x) (a .y)) ≡ true
+unentered c = found (c .before .before .before .before) ∙ eq-eqb _ _ (c .before .before .if1 .left)
+
 returns-2 : tie.Need-returns-2
 returns-2 c =
-    rw (found (c .before .before .before .before .before .before), eq-eqb _ _ (c .before .before .before .before .if1 .left), cell (c .before .before), told-not (c .before .is-empty .ensures) (c .if2 .taken))
+    let at = c .before .before in
+    rw (unentered at, cell at, told-not (c .before .is-empty .ensures) (c .if2 .taken))
 
 returns-3 : tie.Need-returns-3
 returns-3 c =
-    rw (
-      found (c .before .before .before .before .before .before .before),
-      eq-eqb _ _ (c .before .before .before .before .before .if1 .left),
-      cell (c .before .before .before),
-      told-not′ (c .before .before .is-empty .ensures) (c .before .if2 .left),
-    ) (c .is-empty2 .ensures)
+    let at = c .before .before .before in
+    rw (unentered at, cell at, told-not′ (c .before .before .is-empty .ensures) (c .before .if2 .left)) (c .is-empty2 .ensures)
 
 pub is-idle-spec : {M : Type 1} → statement M
 is-idle-spec =

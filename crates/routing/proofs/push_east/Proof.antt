@@ -3,6 +3,7 @@ use mathlib.Core.Path.{_∙_}
 use borrow.Author.Needs.{needs}
 use native.Mathlib.Omega.{arith}
 use Rattle.laws.proofs.Grid.{cell-below}
+use Rattle.router.specs.Links.{reach}
 use Rattle.torus.proofs.Axis.{next-below}
 use Rattle.routing.proofs.push_east.Statement.{statement}
 use Rattle.routing.proofs.push_east.Tie as tie
@@ -22,6 +23,7 @@ put-register-requires c κs =
     rw (c .before .router-index .ensures .0, c .before .before .next .ensures) (omega arith)
 
 returns : tie.Need-returns
+unfolding reach
 returns c =
     let at = c .before .before .before .before in
     c .before .before .put-register .ensures ∙ rw (at .router-index .ensures .0, at .before .next .ensures)

@@ -3,6 +3,7 @@ use mathlib.Core.Path.{_∙_}
 use borrow.Author.Needs.{needs}
 use native.Mathlib.Omega.{arith}
 use Rattle.laws.proofs.Grid.{cell-below}
+use Rattle.router.specs.Links.{reach}
 use Rattle.torus.proofs.Axis.{next-below}
 use Rattle.routing.proofs.push_south.Statement.{statement}
 use Rattle.routing.proofs.push_south.Tie as tie
@@ -23,9 +24,11 @@ put-register-requires c κs =
     rw (c .before .router-index .ensures .0, c .before .before .next .ensures) (omega arith)
 
 returns : tie.Need-returns
+unfolding reach
 returns c =
     let at = c .before .before .before .before in
     c .before .before .put-register .ensures ∙ rw (at .router-index .ensures .0, at .before .next .ensures)
 
 pub push-south-spec : {M : Type 1} → statement M
-push-south-spec = tie.close (tie.spec next-requires router-index-requires (λ c. search needs) (λ c. search needs) put-register-requires (λ c. search needs) returns)
+push-south-spec =
+    tie.close (tie.spec next-requires router-index-requires (λ c. search needs) (λ c. search needs) put-register-requires (λ c. search needs) returns)

@@ -1,55 +1,97 @@
--- `route`: what the router sends is written to its neighbours, or delivered.
-use mathlib.Core.Path.{_∙_}
+-- `route`: what the router sends is written to its neighbours, or delivered. Rests on what the code sends.
+use mathlib.Core.Bool.{cond}
+use mathlib.Core.Path.{_≡_, sym, _∙_}
 use borrow.Author.Needs.{needs}
 use native.Mathlib.Omega.{arith}
-use Rattle.routing.specs.Walk.{pushed}
-use Rattle.cycle.specs.Step.{delivered}
-use Rattle.state.specs.Read.{stateOf}
-use Rattle.routing.proofs.OnGrid.{on-grid}
+use Rattle.state.specs.declared.Register.the-variants.{Empty}
+use Rattle.state.specs.Read.{clockIn, stateOf}
+use Rattle.cycle.specs.Sent.{southward, exits}
+use Rattle.cycle.specs.Step.{leaving, delivered}
+use Rattle.cycle.proofs.Sent.{exits-some, delivered-is}
+use Rattle.routing.specs.Walk.{OnGrid, pushed}
+use Rattle.routing.proofs.OnGrid.{on-grid, at-router}
 use Rattle.routing.proofs.Flows.{east-sent, south-sent, south-reaches}
+use Rattle.routing.proofs.Push.{pushed-is}
 use Rattle.routing.proofs.route.Statement.{statement}
 use Rattle.routing.proofs.route.Tie as tie
 
-at-home-requires : tie.Need-at-home-requires
-at-home-requires c κs =
+sent-at-requires : tie.Need-sent-at-requires
+sent-at-requires c κs =
+    let p = c .before .before .before .before .pre in
+    (at-router _ _ _ (p .0) _ _ (p .1 .0 .0) (p .1 .0 .1), p .0 .all-entrants)
+
+exits-requires : tie.Need-exits-requires
+exits-requires c κs =
     let p = c .before .before .before .before .before .pre in
-    (p .0 .0, rw (c .sent-at .ensures) (south-sent _ (p .0 .0) _ _ (p .1 .0 .0) (p .1 .0 .1 .0)))
+    (p .0 .facts, rw (c .sent-at .ensures) (south-sent _ (p .0 .facts) _ _ (p .1 .0 .0) (p .1 .0 .1)))
+
+-- the router is on the grid
+on : (c : tie.After-sent-at) → let a = c .before .before .before .before .before .args in OnGrid (a .grid) (a .x) (a .y)
+on c = let p = c .before .before .before .before .before .pre in on-grid _ _ _ (p .0) _ _ (p .1 .0 .0) (p .1 .0 .1)
 
 push-east-requires : tie.Need-push-east-requires
 push-east-requires c κs =
-    let p = c .before .before .before .before .before .before .before .pre in
-    let count = p .0 .0 .header .count-most in
-    let sent = east-sent _ (p .0 .0) _ _ (p .1 .0 .0) (p .1 .0 .1 .0) in
-    (on-grid _ (p .0 .0) _ (p .0 .1) _ _ (p .1 .0 .0) (p .1 .0 .1 .0), (rw (c .before .before .sent-at .ensures) (omega (arith, sent)), rw (p .0 .1) (p .1 .1 .1 .0)))
+    let sent = c .before .before in
+    let p = sent .before .before .before .before .before .pre in
+    let flow = east-sent _ (p .0 .facts) _ _ (p .1 .0 .0) (p .1 .0 .1) in
+    let count = p .0 .facts .header .count-most in
+    (on sent, (rw (sent .sent-at .ensures) (omega (arith, flow)), rw (p .0 .grid) (p .1 .1 .0)))
+
+-- whether what goes S exits
+home : (c : tie.After-exits) → let a = c .before .before .before .before .before .before .args in let s = stateOf (a .state .now) in
+    c .exits .result ≡ exits (s .plan) (a .x) (a .y) (southward s (a .x) (a .y))
+home c = c .exits .ensures ∙ rw (c .before .sent-at .ensures)
+
+-- what exits is what the router delivers
+gone : (c : tie.After-exits) → let a = c .before .before .before .before .before .before .args in
+    leaving (clockIn (a .state .now)) (cond (c .exits .result) (c .before .sent-at .result .south) Empty) ≡ delivered (stateOf (a .state .now)) (a .x) (a .y)
+unfolding stateOf
+gone c = rw (home c, c .before .sent-at .ensures) (sym (delivered-is _ _ _))
 
 push-south-requires : tie.Need-push-south-requires
 push-south-requires c κs =
-    let p = c .before .before .before .before .before .before .before .before .before .before .before .before .pre in
-    let count = p .0 .0 .header .count-most in
-    let reaches = south-reaches _ (p .0 .0) _ _ (p .1 .0 .0) (p .1 .0 .1 .0) (c .before .before .before .before .before .before .at-home .result) in (
-      on-grid _ (p .0 .0) _ (p .0 .1) _ _ (p .1 .0 .0) (p .1 .0 .1 .0),
+    let east = c .before .before .before .before in
+    let sent = east .before .before .before in
+    let p = sent .before .before .before .before .before .pre in
+    let flow = south-reaches _ (p .0 .facts) _ _ (p .1 .0 .0) (p .1 .0 .1) (east .before .before .exits .result) in
+    let count = p .0 .facts .header .count-most in (
+      on sent,
       (
-        rw (c .before .unless-exits .ensures, c .before .before .before .before .before .before .before .sent-at .ensures) (omega (arith, reaches)),
-        rw (p .0 .1) (omega (arith, p .1 .1 .1 .0, c .before .before .before .before .push-east .kept .1 .1 .1 .1 .0)),
+        rw (c .before .unless-exits .ensures, sent .sent-at .ensures) (omega (arith, flow)),
+        rw (p .0 .grid) (omega (arith, p .1 .1 .0, east .push-east .kept .1 .1 .1 .1 .0)),
       ),
     )
 
 deliver-requires : tie.Need-deliver-requires
-deliver-requires c κs = c .before .before .before .before .before .before .before .before .before .before .before .before .before .before .before .before .before .pre .1 .1 .1 .1
+deliver-requires c κs =
+    let south = c .before .before .before .before in
+    let east = south .before .before .before .before .before in
+    let home-at = east .before .before in
+    let begin = home-at .before .before .before .before .before .before in
+    (begin .pre .1 .1 .1, λ yes′. exits-some _ _ _ _ (sym (home-at .exits .ensures) ∙ yes′))
+
+-- the next registers
+pushed-next : (c : tie.After-push-south) → let east = c .before .before .before .before .before in
+    let sent = east .before .before .before in let a = sent .before .before .before .before .before .args in
+    c .push-south .last .1 .1 .1 .1 .0 ≡ pushed (a .state .now) (a .x) (a .y) (a .next .now)
+pushed-next c =
+    let east = c .before .before .before .before .before in
+    let sent = east .before .before .before in
+    let begin = sent .before .before .before .before .before in
+    c .push-south .ensures
+    ∙ rw (c .before .before .unless-exits .ensures, east .push-east .ensures, home (east .before .before), sent .sent-at .ensures, begin .pre .0 .grid)
+    (pushed-is _ _ _ _)
 
 returns : tie.Need-returns
-unfolding pushed delivered stateOf
 returns c =
-    let out = c .before .before .deliver in
-    let south = c .before .before .before .before .before .before .before in
+    let delivered-at = c .before .before in
+    let out = delivered-at .deliver in
+    let south = delivered-at .before .before .before .before .before in
     let east = south .before .before .before .before .before in
-    let home = east .before .before .at-home .ensures in
-    let sent = east .before .before .before .sent-at .ensures in (
-      south .push-south .ensures ∙ rw (south .before .before .unless-exits .ensures, east .push-east .ensures, home, sent, c .before .before .before .before .before .before .before .before .before .before .before .before .before .before .before .before .before .before .before .before .pre .0 .1),
-      (out .ensures .0 ∙ rw (home, sent), out .ensures .1 ∙ rw (home, sent)),
-    )
+    let at = east .before .before in
+    (pushed-next south, (out .ensures .0 ∙ rw (gone at), out .ensures .1 ∙ rw (gone at)))
 
 pub route-spec : {M : Type 1} → statement M
 route-spec =
-    tie.close (tie.spec (λ c κs. let p = c .before .before .before .before .pre in (p .0 .0, (p .1 .0, p .1 .1 .0))) at-home-requires push-east-requires (λ c κs. search needs) push-south-requires (λ c. search needs)
+    tie.close (tie.spec sent-at-requires exits-requires push-east-requires (λ c κs. search needs) push-south-requires (λ c. search needs)
     deliver-requires (λ c. search needs) (λ c. search needs) returns)

@@ -1,9 +1,8 @@
--- The path of a packet: 01's in-place conditions, told without differences, and its progress. One step keeps the conditions
--- and raises the progress. Rests on the rules 1 and 2 of specs/Cycle. The topology is known here, to Meetings and Takers (where a way
--- passes a source) and to Places (which output feeds a register), and to nobody else.
-use mathlib.Core.Bool.{false, cond, false≢true}
+-- The path of a packet: 01's in-place conditions, told without differences, and its progress. One step by rules 1 and 2 keeps the
+-- conditions and raises the progress, whatever the router sees. Rests on specs/Rule and the laws of offsets.
+use mathlib.Core.Bool.{cond}
 use mathlib.Core.Logic.{_⊎_, inl, inr}
-use mathlib.Core.Path.{_≡_, refl, sym, ap, _∙_}
+use mathlib.Core.Path.{_≡_, refl, ap, _∙_}
 use Prim.Native.Nat.{ℕ, suc, _+_, _*_, _≤_, _<_}
 use native.Mathlib.Nat.{add-zero, mul-le-mul-right}
 use native.Mathlib.Decide.{ℕ-discrete, decLt}
@@ -18,12 +17,10 @@ use Rattle.flow.specs.declared.Flow.{Flow}
 use Rattle.flow.specs.declared.Port.the-variants.{East, South}
 use Rattle.flow.specs.Offsets.{ΔX, ΔY, portOf}
 use Rattle.flow.specs.Plan.{Plan, FlowOk}
-use Rattle.window.specs.Flight.{travel}
 use Rattle.place.specs.Place.{Place, W, N, columnOf, rowOf}
-use Rattle.book.specs.Line.{Stage, waiting, placed, left, isWaiting, entryOf}
-use Rattle.book.specs.Book.{Book}
-use Rattle.book.specs.Cycle.{westTurns, output, deflects, sent}
 use Rattle.place.specs.InPlace.{rowsDone}
+use Rattle.router.specs.Links.{reach}
+use Rattle.router.specs.Rule.{Seen, turnsSouth, deflects, Way, via, leave, wayBy, wayFrom}
 
 module _ (p : Plan) (f : Flow) where
   abbrev sx : ℕ
@@ -73,36 +70,44 @@ module _ (p : Plan) (f : Flow) where
     pub few : D ≤ r y
     pub time : c + sx ≡ e + (dx + r y + D * sx + k x)
 
-  -- left, in an earlier cycle
-  pub record Gone (c D e t x y : ℕ) : Type 0 where
+  -- at its exit in cycle c
+  pub record AtExit (c D e x y : ℕ) : Type 0 where
     pub column : x ≡ f .xd
     pub row : y ≡ f .yd
     pub few : D ≤ dy
-    pub time : t ≡ e + travel (p .sx) (p .sy) f D
-    pub past : t < c
+    pub time : c ≡ e + (dx + dy + D * sx)
 
-  -- a line of flow f with D deflections is where it can be at clock c
-  abbrev pub Sound : (c D : ℕ) → Stage → Type 0
-  Sound c D waiting = D ≡ 0
-  Sound c D (placed e (N x y)) = InNorth c D e x y
-  Sound c D (placed e (W x y)) = InFirst c D e x y ⊎ InLater c D e x y
-  Sound c D (left e t x y) = Gone c D e t x y
+  -- a packet of flow f with entry e and D deflections is in a register where it can be at clock c
+  abbrev pub OnPath : (c D e : ℕ) → Place → Type 0
+  OnPath c D e (N x y) = InNorth c D e x y
+  OnPath c D e (W x y) = InFirst c D e x y ⊎ InLater c D e x y
 
   -- how far a packet has come in its row
   abbrev pub along : (x y : ℕ) → ℕ
   along x y = cond (eqb (r y) 0) (j x) (k x)
 
-  -- how far a packet has come: rows, then columns; above all once it has left
-  abbrev pub progress : Stage → ℕ
-  progress waiting = 0
-  progress (placed e (N x y)) = r y * suc sx
-  progress (placed e (W x y)) = r y * suc sx + along x y
-  progress (left e t x y) = suc dy * suc sx
+  -- how far a packet in a register has come: rows, then columns
+  abbrev pub progress : Place → ℕ
+  progress (N x y) = r y * suc sx
+  progress (W x y) = r y * suc sx + along x y
 
-  -- a step in cycle c leads to the stage s, with progress more than n
-  pub record Leads (c D n : ℕ) (s : Stage) : Type 0 where
-    pub sound : Sound (c + 1) D s
-    pub rises : n < progress s
+  -- above all once it has left
+  abbrev pub whole : ℕ
+  whole = suc dy * suc sx
+
+  -- where a way out of the router in column x and row y leads in cycle c, and how far
+  abbrev pub Arrives : (c D e x y : ℕ) → Way → Type 0
+  Arrives c D e x y (via o) = OnPath (c + 1) D e (reach p x y o)
+  Arrives c D e x y leave = AtExit c D e x y
+
+  abbrev pub progressBy : (x y : ℕ) → Way → ℕ
+  progressBy x y (via o) = progress (reach p x y o)
+  progressBy x y leave = whole
+
+  -- it leads on, to a progress of more than n
+  pub record Leads (c D e x y n : ℕ) (o : Way) : Type 0 where
+    pub sound : Arrives c D e x y o
+    pub rises : n < progressBy x y o
 
   -- a packet goes S at the router in column x and row y, in cycle c
   pub record GoesSouth (c D e x y : ℕ) : Type 0 where
@@ -112,7 +117,7 @@ module _ (p : Plan) (f : Flow) where
     pub few : D ≤ r y
     pub time : c ≡ e + (dx + r y + D * sx)
 
-  leads-more : {c D n m : ℕ} {s : Stage} → m ≤ n → Leads c D n s → Leads c (D + 0) m s
+  leads-more : {c D e x y n m : ℕ} {o : Way} → m ≤ n → Leads c D e x y n o → Leads c (D + 0) e x y m o
   leads-more l h = rw add-zero (record { sound = h .sound; rises = omega (arith, h .rises) })
 
   pub along-first : (x y : ℕ) → r y ≡ 0 → along x y ≡ j x
@@ -136,22 +141,22 @@ module _ (p : Plan) (f : Flow) where
         ]
 
     -- a placed packet isn't past its row
-    pub progress-row : (c D e : ℕ) (at : Place) → Sound c D (placed e at) → progress (placed e at) ≤ r (rowOf at) * suc sx + sx
+    pub progress-row : (c D e : ℕ) (at : Place) → OnPath c D e at → progress at ≤ r (rowOf at) * suc sx + sx
     progress-row c D e (N x y) h = omega arith
     progress-row c D e (W x y) (inl h) = omega (arith, along-most x y (h .column))
     progress-row c D e (W x y) (inr h) = omega (arith, along-most x y (h .column))
 
     -- S leads to the exit, or one row on
-    pub south : (c D e x y : ℕ) → GoesSouth c D e x y → Leads c D (r y * suc sx + sx) (sent p f c e x y South)
-    unfolding sent
+    pub south : (c D e x y : ℕ) → GoesSouth c D e x y → Leads c D e x y (r y * suc sx + sx) (wayBy x y f South)
+    unfolding reach
     south c D e x y g =
         elim (ℕ-discrete y (f .yd)) [
           | yes at ↦
-              let whole : r y ≡ dy = ap r at in
+              let last : r y ≡ dy = ap r at in
               rw (eq-eqb x (f .xd) (g .column), eq-eqb y (f .yd) at)
               (record {
-                sound = record { column = g .column; row = at; few = omega (arith, g .few); time = omega (arith, g .time); past = omega arith };
-                rises = rw whole (omega arith);
+                sound = record { column = g .column; row = at; few = omega (arith, g .few); time = omega (arith, g .time) };
+                rises = rw last (omega arith);
               })
           | no other ↦
               let short : r y < dy = offset-short (p .sy) (f .ys) y (f .yd) (ok .ys-on) (g .row) (ok .yd-on) (g .most) other in
@@ -171,8 +176,8 @@ module _ (p : Plan) (f : Flow) where
         ]
 
     -- E leads one column on, in the source's row
-    east-first : (c e x y : ℕ) → x < sx → y ≡ f .ys → j x < dx → c ≡ e + j x → Leads c 0 (j x) (sent p f c e x y East)
-    unfolding sent
+    east-first : (c e x y : ℕ) → x < sx → y ≡ f .ys → j x < dx → c ≡ e + j x → Leads c 0 e x y (j x) (via East)
+    unfolding reach
     east-first c e x y l row short time =
         let on : j (next sx x) ≡ j x + 1 = offset-on sx (f .xs) x (f .xd) (ok .xs-on) l (ok .xd-on) short in
         record {
@@ -182,8 +187,8 @@ module _ (p : Plan) (f : Flow) where
 
     -- and in a later row
     east-later : (c D e x y n : ℕ) → x < sx → y < p .sy → 1 ≤ r y → r y ≤ dy → 1 ≤ D → D ≤ r y
-        → c + 1 + sx ≡ e + (dx + r y + D * sx + k (next sx x)) → n < r y * suc sx + k (next sx x) → Leads c D n (sent p f c e x y East)
-    unfolding sent
+        → c + 1 + sx ≡ e + (dx + r y + D * sx + k (next sx x)) → n < r y * suc sx + k (next sx x) → Leads c D e x y n (via East)
+    unfolding reach
     east-later c D e x y n l m least most some few time more =
         record {
           sound = inr (record { column = next-below sx x l; row = m; least = least; most = most; some = some; few = few; time = time });
@@ -191,7 +196,7 @@ module _ (p : Plan) (f : Flow) where
         }
 
     -- who goes S: an N packet, and a W packet in its column
-    pub placed-south : (c D e : ℕ) (at : Place) → Sound c D (placed e at) → columnOf at ≡ f .xd → GoesSouth c D e (columnOf at) (rowOf at)
+    pub placed-south : (c D e : ℕ) (at : Place) → OnPath c D e at → columnOf at ≡ f .xd → GoesSouth c D e (columnOf at) (rowOf at)
     placed-south c D e (N x y) s turn =
         record { column = turn; row = s .row; most = s .most; few = omega (arith, s .few); time = s .time }
     placed-south c D e (W x y) (inl s) turn =
@@ -204,10 +209,10 @@ module _ (p : Plan) (f : Flow) where
         record { column = turn; row = s .row; most = s .most; few = s .few; time = omega (arith, s .time) }
 
     -- a placed packet's step, by rules 1 and 2
-    pub step-placed : (b : Book) (c D e : ℕ) (at : Place) → Sound c D (placed e at)
-        → Leads c (D + one (deflects p b at)) (progress (placed e at)) (sent p f c e (columnOf at) (rowOf at) (output p b f at))
-    step-placed b c D e (N x y) s =
-        elim (test (westTurns p b x y)) [
+    pub step-placed : (s : Seen) (c D e : ℕ) (at : Place) → OnPath c D e at
+        → Leads c (D + one (deflects s at)) e (columnOf at) (rowOf at) (progress at) (wayFrom s at f)
+    step-placed v c D e (N x y) s =
+        elim (test (turnsSouth x (v .west))) [
           | inl turn ↦
               let round : k (next sx x) ≡ 1 = ap (λ (z : ℕ). k (next sx z)) (s .column) ∙ lap-first sx (f .xd) (ok .xd-on) in
               rw turn
@@ -215,7 +220,7 @@ module _ (p : Plan) (f : Flow) where
               (omega arith) (omega (arith, s .few)) (omega (arith, s .time)) (omega arith))
           | inr turn ↦ rw turn (leads-more (omega arith) (south c D e x y (placed-south c D e (N x y) s (s .column))))
         ]
-    step-placed b c D e (W x y) (inl s) =
+    step-placed v c D e (W x y) (inl s) =
         let none : r y ≡ 0 = ap r (s .row) ∙ first-row in
         let rows : r y * suc sx ≡ 0 * suc sx = ap (λ (n : ℕ). n * suc sx) none in
         let come = along-first x y none in
@@ -225,7 +230,7 @@ module _ (p : Plan) (f : Flow) where
               let short = offset-short sx (f .xs) x (f .xd) (ok .xs-on) (s .column) (ok .xd-on) (s .most) other in
               rw (ne-eqb x (f .xd) other, s .none) (leads-more (omega arith) (east-first c e x y (s .column) (s .row) short (s .time)))
         ]
-    step-placed b c D e (W x y) (inr s) =
+    step-placed v c D e (W x y) (inr s) =
         let come = along-later x y (s .least) in
         elim (ℕ-discrete x (f .xd)) [
           | yes turn ↦
@@ -239,7 +244,7 @@ module _ (p : Plan) (f : Flow) where
         ]
 
     -- an entry, by rule 3: in cycle c, at the source, by the flow's port
-    pub step-entry : (c : ℕ) → Leads c 0 0 (sent p f c c (f .xs) (f .ys) (portOf sx f))
+    pub step-entry : (c : ℕ) → Leads c 0 c (f .xs) (f .ys) 0 (wayBy (f .xs) (f .ys) f (portOf sx f))
     step-entry c =
         let none : j (f .xs) ≡ 0 = offset-same sx (f .xs) (ok .xs-on) in
         elim (decLt 0 dx) [
@@ -254,15 +259,13 @@ module _ (p : Plan) (f : Flow) where
         ]
 
     -- a place is a register of the torus
-    pub placed-on : (c D e : ℕ) (at : Place) → Sound c D (placed e at) → (columnOf at < sx) × (rowOf at < p .sy)
+    pub placed-on : (c D e : ℕ) (at : Place) → OnPath c D e at → (columnOf at < sx) × (rowOf at < p .sy)
     placed-on c D e (N x y) h = (rw (h .column) (ok .xd-on), h .row)
     placed-on c D e (W x y) (inl h) = (h .column, rw (h .row) (ok .ys-on))
     placed-on c D e (W x y) (inr h) = (h .column, h .row)
 
-    -- an entry was in an earlier cycle
-    pub entered-before : (c D : ℕ) (s : Stage) → Sound c D s → isWaiting s ≡ false → entryOf s < c
-    entered-before c D waiting h e = absurd (false≢true (sym e))
-    entered-before c D (placed e (N x y)) h n = omega (arith, h .time, h .least)
-    entered-before c D (placed e (W x y)) (inl h) n = omega (arith, h .time, h .least)
-    entered-before c D (placed e (W x y)) (inr h) n = omega (arith, h .time, h .least, mul-le-mul-right sx (h .some))
-    entered-before c D (left e t x y) h n = omega (arith, h .time, h .past)
+    -- its entry was in an earlier cycle
+    pub entered-before : (c D e : ℕ) (at : Place) → OnPath c D e at → e < c
+    entered-before c D e (N x y) h = omega (arith, h .time, h .least)
+    entered-before c D e (W x y) (inl h) = omega (arith, h .time, h .least)
+    entered-before c D e (W x y) (inr h) = omega (arith, h .time, h .least, mul-le-mul-right sx (h .some))

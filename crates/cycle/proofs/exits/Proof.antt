@@ -1,9 +1,9 @@
--- `at_home`: the definition's own cases.
+-- `exits`: the definition's own cases.
 use borrow.Author.Needs.{needs}
 use borrow.Author.Tests.{eq-eqb, ne-eqb}
-use Rattle.cycle.specs.Router.{atHome}
-use Rattle.cycle.proofs.at_home.Statement.{statement}
-use Rattle.cycle.proofs.at_home.Tie as tie
+use Rattle.cycle.specs.Sent.{exits}
+use Rattle.cycle.proofs.exits.Statement.{statement}
+use Rattle.cycle.proofs.exits.Tie as tie
 
 flow-at-requires : tie.Need-flow-at-requires
 flow-at-requires c κs =
@@ -11,16 +11,16 @@ flow-at-requires c κs =
     (p .0, rw (c .before .r .given .1) at (p .1))
 
 returns : tie.Need-returns
-unfolding atHome
+unfolding exits
 returns c = rw (c .before .before .before .before .r .given .1, ← (c .before .before .flow-at .ensures), ne-eqb _ _ (c .if1 .taken))
 
 returns-2 : tie.Need-returns-2
-unfolding atHome
+unfolding exits
 returns-2 c = rw (c .enum-told .given .1)
 
 returns-3 : tie.Need-returns-3
-unfolding atHome
+unfolding exits
 returns-3 c = rw (c .before .before .before .before .before .r .given .1, ← (c .before .before .before .flow-at .ensures), eq-eqb _ _ (c .before .if1 .left))
 
-pub at-home-spec : {M : Type 1} → statement M
-at-home-spec = tie.close (tie.spec (λ c. search needs) (λ c. search needs) flow-at-requires returns returns-2 returns-3)
+pub exits-spec : {M : Type 1} → statement M
+exits-spec = tie.close (tie.spec (λ c. search needs) (λ c. search needs) flow-at-requires returns returns-2 returns-3)
