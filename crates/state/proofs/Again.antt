@@ -67,13 +67,15 @@ module _ (w : List ℕ) where
     state-again =
         let long = h .long in
         record {
-          room = rw (view-size w) (h .long);
-          head = header-again (h .header) (omega arith);
-          flow = λ f l.
-              let m : f < countIn w = rw (view-count w) at l in
-              rw (view-flow w f m, view-tally w f m) (flow-again (flowPlace f) (omega arith));
+          front = record {
+            room = rw (view-size w) (h .long);
+            head = header-again (h .header) (omega arith);
+            flow = λ f l.
+                let m : f < countIn w = rw (view-count w) at l in
+                rw (view-flow w f m, view-tally w f m) (flow-again (flowPlace f) (omega arith));
+            past = refl;
+          };
           router = routers;
-          past = refl;
         }
       where
         routers : (x y : ℕ) → x < planIn w .sx → y < planIn w .sy

@@ -59,7 +59,7 @@ module _ (s : State) (ok : StateOk s) (w : List ℕ) (h : Stands 0 w 0 (stateWor
   unfolding headerFits allBelow
   header-true =
       let p = ok .plan-ok in
-      let first = held s w h .head in
+      let first = held s w h .front .head in
       rw (
         sx-read s w h,
         sy-read s w h,

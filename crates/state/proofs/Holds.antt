@@ -11,7 +11,9 @@ use lib.ListN.{length, drop, set, length-set}
 use lib.Seq.{sets, length-sets}
 use Rattle.laws.specs.Grid.{cellIndex}
 use Rattle.laws.proofs.Grid.{rows-stand, stands-rows}
-use Rattle.laws.proofs.Stands.{Stands, stands-left, stands-in, stands-first, stands-after, stands-append, stands-other, stands-sets, stands-join, join-stands, drop-sets}
+use Rattle.laws.proofs.Stands.{Stands, stands-left, stands-in, stands-first, stands-after, stands-append, stands-join, join-stands}
+use Rattle.laws.proofs.Stands.{stands-other, stands-sets, drop-sets}
+use Rattle.flow.specs.declared.Flow.{Flow}
 use Rattle.flow.specs.Plan.{Plan, flowAt}
 use Rattle.state.specs.declared.Tally.{Tally}
 use Rattle.state.specs.declared.Cell.{Cell}
@@ -23,12 +25,17 @@ use Rattle.state.specs.Calls.{planSize}
 use Rattle.state.proofs.Words.{header, flows, cells, length-cell, length-words, front-length}
 use Rattle.state.proofs.Over.{over-is}
 
-pub record Holds (p : Plan) (clock : ℕ) (tally : ℕ → Tally) (cell : (x y : ℕ) → Cell) (rest w : List ℕ) : Type 0 where
+-- room for a plan's state, its header and its flows, and what lies past the state
+pub record Front (p : Plan) (clock : ℕ) (tally : ℕ → Tally) (rest w : List ℕ) : Type 0 where
   pub room : planSize p ≤ length w
   pub head : Stands 0 w 0 (headerWords p clock)
   pub flow : (f : ℕ) → f < length (p .flows) → Stands 0 w (flowPlace f) (flowWords (flowAt p f) (tally f))
-  pub router : (x y : ℕ) → x < p .sx → y < p .sy → Stands 0 w (routerPlace (length (p .flows)) (p .sx) x y) (cellWords (cell x y))
   pub past : drop (planSize p) w ≡ rest
+
+-- and its registers
+pub record Holds (p : Plan) (clock : ℕ) (tally : ℕ → Tally) (cell : (x y : ℕ) → Cell) (rest w : List ℕ) : Type 0 where
+  pub front : Front p clock tally rest w
+  pub router : (x y : ℕ) → x < p .sx → y < p .sy → Stands 0 w (routerPlace (length (p .flows)) (p .sx) x y) (cellWords (cell x y))
 
 abbrev pub HoldsState : State → (rest w : List ℕ) → Type 0
 HoldsState s rest w = Holds (s .plan) (s .clock) (tallyAt s) (cellAt s) rest w
@@ -39,17 +46,19 @@ module _ (s : State) (w : List ℕ) where
   unfolding stateWords
   words-hold h =
       record {
-        room = omega (arith, length-words s, h .fits);
-        head = part 0 (header s) (stands-left 0 (header s ++ flows s) (cells s) 0 (header s) (stands-first 0 (header s) (flows s)));
-        flow = λ f l. part (flowPlace f) (word f)
-            (stands-left 0 (header s ++ flows s) (cells s) (flowPlace f) (word f)
-            (stands-in 0 (header s ++ flows s) (flows s) (word f) headerSize (flowSize * f) (stands-after 0 (header s) (flows s))
-            (join-stands 0 flowSize _ word (λ f l. refl) f l)));
+        front = record {
+          room = omega (arith, length-words s, h .fits);
+          head = part 0 (header s) (stands-left 0 (header s ++ flows s) (cells s) 0 (header s) (stands-first 0 (header s) (flows s)));
+          flow = λ f l. part (flowPlace f) (word f)
+              (stands-left 0 (header s ++ flows s) (cells s) (flowPlace f) (word f)
+              (stands-in 0 (header s ++ flows s) (flows s) (word f) headerSize (flowSize * f) (stands-after 0 (header s) (flows s))
+              (join-stands 0 flowSize _ word (λ f l. refl) f l)));
+          past = refl;
+        };
         router = λ x y l k. part _ _
             (stands-in 0 (stateWords s) (cells s) (cellWords (cellAt s x y)) (flowPlace (length (s .plan .flows))) (routerSize * cellIndex (s .plan .sx) x y)
             (rw (front-length s) at (stands-after 0 (header s ++ flows s) (cells s)))
             (rows-stand 0 routerSize _ _ (λ x y. cellWords (cellAt s x y)) (λ x y l k. length-cell (cellAt s x y)) x y l k));
-        past = refl;
       }
     where
       word : ℕ → List ℕ
@@ -62,15 +71,36 @@ module _ (s : State) (w : List ℕ) where
   pub hold-words : (rest : List ℕ) → HoldsState s rest w → Stands 0 w 0 (stateWords s)
   unfolding stateWords
   hold-words rest h =
-      let room = h .room in
+      let room = h .front .room in
       stands-append 0 w (header s ++ flows s) (cells s) 0
-      (stands-append 0 w (header s) (flows s) 0 (h .head)
-      (stands-join 0 w headerSize flowSize _ (λ f. flowWords (flowAt (s .plan) f) (tallyAt s f)) (omega arith) (λ f l. refl) (h .flow)))
+      (stands-append 0 w (header s) (flows s) 0 (h .front .head)
+      (stands-join 0 w headerSize flowSize _ (λ f. flowWords (flowAt (s .plan) f) (tallyAt s f)) (omega arith) (λ f l. refl) (h .front .flow)))
       (rw (front-length s, zero-add)
-      (stands-rows 0 routerSize _ _ (λ x y. cellWords (cellAt s x y)) (λ x y l k. length-cell (cellAt s x y)) w _ (h .room) (h .router)))
+      (stands-rows 0 routerSize _ _ (λ x y. cellWords (cellAt s x y)) (λ x y l k. length-cell (cellAt s x y)) w _ room (h .router)))
 
   pub hold-over : (old : List ℕ) → HoldsState s (drop (planSize (s .plan)) old) w → w ≡ over (stateWords s) old
-  hold-over old h = over-is (stateWords s) old w (hold-words _ h) (rw (length-words s) (h .past))
+  hold-over old h = over-is (stateWords s) old w (hold-words _ h) (rw (length-words s) (h .front .past))
+
+module _ (p : Plan) (clock : ℕ) (tally : ℕ → Tally) (rest w : List ℕ) (h : Front p clock tally rest w) where
+  -- all registers, written behind the flows
+  pub registers-written : (cell : (x y : ℕ) → Cell) (l : List ℕ) → length l ≡ routerSize * (p .sx * p .sy)
+      → ((x y : ℕ) → x < p .sx → y < p .sy → Stands 0 l (routerSize * cellIndex (p .sx) x y) (cellWords (cell x y)))
+      → Holds p clock tally cell rest (sets w (flowPlace (length (p .flows))) l)
+  registers-written cell l long each =
+      let room = h .room in
+      record {
+        front = record {
+          room = rw length-sets (h .room);
+          head = stands-other 0 w 0 (headerWords p clock) base l (h .head) (inl (omega arith));
+          flow = λ f m. stands-other 0 w (flowPlace f) (flowWords (flowAt p f) (tally f)) base l (h .flow f m) (inl (omega arith));
+          past = drop-sets w base l (planSize p) (omega arith) ∙ h .past;
+        };
+        router = λ x y m k. stands-in 0 (sets w base l) l (cellWords (cell x y)) base (routerSize * cellIndex (p .sx) x y)
+            (stands-sets 0 w base l (omega arith)) (each x y m k);
+      }
+    where
+      base : ℕ
+      base = flowPlace (length (p .flows))
 
 module _ (p : Plan) (clock : ℕ) (tally : ℕ → Tally) (cell : (x y : ℕ) → Cell) (rest w : List ℕ) (h : Holds p clock tally cell rest w) where
   -- equal tallies and cells
@@ -78,11 +108,13 @@ module _ (p : Plan) (clock : ℕ) (tally : ℕ → Tally) (cell : (x y : ℕ) �
       → ((x y : ℕ) → x < p .sx → y < p .sy → cell′ x y ≡ cell x y) → Holds p clock tally′ cell′ rest w
   hold-same tally′ cell′ e d =
       record {
-        room = h .room;
-        head = h .head;
-        flow = λ f l. rw (e f l) (h .flow f l);
+        front = record {
+          room = h .front .room;
+          head = h .front .head;
+          flow = λ f l. rw (e f l) (h .front .flow f l);
+          past = h .front .past;
+        };
         router = λ x y l k. rw (d x y l k) (h .router x y l k);
-        past = h .past;
       }
 
   -- a tally, written over that of flow f
@@ -90,11 +122,13 @@ module _ (p : Plan) (clock : ℕ) (tally : ℕ → Tally) (cell : (x y : ℕ) �
       → Holds p clock tally′ cell rest (sets w (flowPlace f + numberSize) (tallyWords (tally′ f)))
   tally-written f l tally′ others =
       record {
-        room = rw length-sets (h .room);
-        head = stands-other 0 w 0 (headerWords p clock) at t (h .head) (inl (omega arith));
-        flow = each;
+        front = record {
+          room = rw length-sets (h .front .room);
+          head = stands-other 0 w 0 (headerWords p clock) at t (h .front .head) (inl (omega arith));
+          flow = each;
+          past = drop-sets w at t (planSize p) (omega arith) ∙ h .front .past;
+        };
         router = λ x y m k. stands-other 0 w _ (cellWords (cell x y)) at t (h .router x y m k) (inr (omega arith));
-        past = drop-sets w at t (planSize p) (omega arith) ∙ h .past;
       }
     where
       at : ℕ
@@ -103,23 +137,27 @@ module _ (p : Plan) (clock : ℕ) (tally : ℕ → Tally) (cell : (x y : ℕ) �
       t : List ℕ
       t = tallyWords (tally′ f)
 
-      numbers : Stands 0 w (flowPlace f) (numberWords (flowAt p f))
+      φ : Flow
+      φ = flowAt p f
+
+      old : Stands 0 w (flowPlace f) (flowWords φ (tally f))
+      old = h .front .flow f l
+
+      numbers : Stands 0 w (flowPlace f) (numberWords φ)
       numbers =
-          let φ = flowAt p f in
-          rw add-zero
-          at (stands-in 0 w (flowWords φ (tally f)) (numberWords φ) (flowPlace f) 0 (h .flow f l) (stands-first 0 (numberWords φ) (tallyWords (tally f))))
+          rw add-zero at (stands-in 0 w (flowWords φ (tally f)) (numberWords φ) (flowPlace f) 0 old (stands-first 0 (numberWords φ) (tallyWords (tally f))))
 
       each : (g : ℕ) → g < length (p .flows) → Stands 0 (sets w at t) (flowPlace g) (flowWords (flowAt p g) (tally′ g))
       each g m =
           elim (ℕ-discrete g f) [
             | yes e ↦
                 rw e
-                (stands-append 0 (sets w at t) (numberWords (flowAt p f)) t (flowPlace f)
-                (stands-other 0 w (flowPlace f) (numberWords (flowAt p f)) at t numbers (inl (omega arith)))
-                (stands-sets 0 w at t (omega (arith, h .flow f l .fits))))
+                (stands-append 0 (sets w at t) (numberWords φ) t (flowPlace f)
+                (stands-other 0 w (flowPlace f) (numberWords φ) at t numbers (inl (omega arith)))
+                (stands-sets 0 w at t (omega (arith, old .fits))))
             | no e ↦
                 rw (others g e)
-                (stands-other 0 w (flowPlace g) (flowWords (flowAt p g) (tally g)) at t (h .flow g m)
+                (stands-other 0 w (flowPlace g) (flowWords (flowAt p g) (tally g)) at t (h .front .flow g m)
                 (elim (decLt f g) [ yes b ↦ inr (omega arith) | no b ↦ inl (omega arith) ]))
           ]
 
@@ -127,15 +165,17 @@ module _ (p : Plan) (clock : ℕ) (tally : ℕ → Tally) (cell : (x y : ℕ) �
   pub clock-written : (clock′ : ℕ) → Holds p clock′ tally cell rest (set w clockPlace clock′)
   clock-written clock′ =
       record {
-        room = rw length-set (h .room);
-        head = stands-append 0 new front (clock′ ∷ zeros) 0
-            (stands-other 0 w 0 front clockPlace now (stands-in 0 w (headerWords p clock) front 0 0 (h .head) (stands-first 0 front (clock ∷ zeros))) (inl (omega arith)))
-            (stands-append 0 new now zeros clockPlace (stands-sets 0 w clockPlace now (omega (arith, h .head .fits)))
-            (stands-other 0 w zerosPlace zeros clockPlace now
-            (stands-in 0 w (headerWords p clock) zeros 0 zerosPlace (h .head) (stands-after 0 (front ++ (clock ∷ [])) zeros)) (inr (omega arith))));
-        flow = λ f l. stands-other 0 w _ _ clockPlace now (h .flow f l) (inr (omega arith));
+        front = record {
+          room = rw length-set (h .front .room);
+          head = stands-append 0 (sets w clockPlace now) front (clock′ ∷ zeros) 0
+              (stands-other 0 w 0 front clockPlace now front-old (inl (omega arith)))
+              (stands-append 0 (sets w clockPlace now) now zeros clockPlace
+              (stands-sets 0 w clockPlace now (omega (arith, old .fits)))
+              (stands-other 0 w zerosPlace zeros clockPlace now zeros-old (inr (omega arith))));
+          flow = λ f l. stands-other 0 w _ _ clockPlace now (h .front .flow f l) (inr (omega arith));
+          past = drop-sets w clockPlace now (planSize p) (omega arith) ∙ h .front .past;
+        };
         router = λ x y l k. stands-other 0 w _ _ clockPlace now (h .router x y l k) (inr (omega arith));
-        past = drop-sets w clockPlace now (planSize p) (omega arith) ∙ h .past;
       }
     where
       front : List ℕ
@@ -147,23 +187,11 @@ module _ (p : Plan) (clock : ℕ) (tally : ℕ → Tally) (cell : (x y : ℕ) �
       now : List ℕ
       now = clock′ ∷ []
 
-      new : List ℕ
-      new = sets w clockPlace now
+      old : Stands 0 w 0 (headerWords p clock)
+      old = h .front .head
 
-  -- all registers, written behind the flows
-  pub registers-written : (cell′ : (x y : ℕ) → Cell) (l : List ℕ) → length l ≡ routerSize * (p .sx * p .sy)
-      → ((x y : ℕ) → x < p .sx → y < p .sy → Stands 0 l (routerSize * cellIndex (p .sx) x y) (cellWords (cell′ x y)))
-      → Holds p clock tally cell′ rest (sets w (flowPlace (length (p .flows))) l)
-  registers-written cell′ l long each =
-      let room = h .room in
-      record {
-        room = rw length-sets (h .room);
-        head = stands-other 0 w 0 (headerWords p clock) base l (h .head) (inl (omega arith));
-        flow = λ f m. stands-other 0 w (flowPlace f) (flowWords (flowAt p f) (tally f)) base l (h .flow f m) (inl (omega arith));
-        router = λ x y m k. stands-in 0 (sets w base l) l (cellWords (cell′ x y)) base (routerSize * cellIndex (p .sx) x y)
-            (stands-sets 0 w base l (omega arith)) (each x y m k);
-        past = drop-sets w base l (planSize p) (omega arith) ∙ h .past;
-      }
-    where
-      base : ℕ
-      base = flowPlace (length (p .flows))
+      front-old : Stands 0 w 0 front
+      front-old = stands-in 0 w (headerWords p clock) front 0 0 old (stands-first 0 front (clock ∷ zeros))
+
+      zeros-old : Stands 0 w zerosPlace zeros
+      zeros-old = stands-in 0 w (headerWords p clock) zeros 0 zerosPlace old (stands-after 0 (front ++ (clock ∷ [])) zeros)

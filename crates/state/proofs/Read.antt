@@ -75,22 +75,22 @@ module _ (s : State) (w : List ℕ) (h : Stands 0 w 0 (stateWords s)) where
   held = words-hold s w h
 
   pub sx-read : sxIn w ≡ s .plan .sx
-  sx-read = held .head .same 0 (omega arith)
+  sx-read = held .front .head .same 0 (omega arith)
 
   pub sy-read : syIn w ≡ s .plan .sy
-  sy-read = held .head .same 1 (omega arith)
+  sy-read = held .front .head .same 1 (omega arith)
 
   pub count-read : countIn w ≡ length (s .plan .flows)
-  count-read = held .head .same 2 (omega arith)
+  count-read = held .front .head .same 2 (omega arith)
 
   pub clock-read : clockIn w ≡ s .clock
-  clock-read = held .head .same 3 (omega arith)
+  clock-read = held .front .head .same 3 (omega arith)
 
   pub flow-at-read : (f : ℕ) → f < length (s .plan .flows) → flowIn w (flowPlace f) ≡ flowAt (s .plan) f
-  flow-at-read f l = flow-read w (flowPlace f) (flowAt (s .plan) f) (tallyAt s f) (held .flow f l)
+  flow-at-read f l = flow-read w (flowPlace f) (flowAt (s .plan) f) (tallyAt s f) (held .front .flow f l)
 
   pub tally-at-read : (f : ℕ) → f < length (s .plan .flows) → tallyIn w (flowPlace f) ≡ tallyAt s f
-  tally-at-read f l = tally-read w (flowPlace f) (flowAt (s .plan) f) (tallyAt s f) (held .flow f l)
+  tally-at-read f l = tally-read w (flowPlace f) (flowAt (s .plan) f) (tallyAt s f) (held .front .flow f l)
 
   pub cell-at-read : (x y : ℕ) → x < s .plan .sx → y < s .plan .sy → cellIn w (routerIn w x y) ≡ cellAt s x y
   cell-at-read x y l m = rw (count-read, sx-read) (cell-read w _ (cellAt s x y) (held .router x y l m))

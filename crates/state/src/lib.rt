@@ -8,7 +8,8 @@ ghost use lib.ListN.{length, set};
 ghost use lib.Seq.{sets};
 ghost use Rattle.laws.specs.Grid.{cellIndex};
 ghost use Rattle.flow.specs.Plan.{mostSize, mostFlows};
-ghost use Rattle.state.specs.Layout.{headerSize, clockPlace, flowSize, numberSize, registerSize, routerSize, mostRouters, flowPlace, routerPlace, stateSize};
+ghost use Rattle.state.specs.Layout.{headerSize, clockPlace, flowSize, numberSize, registerSize, routerSize, mostRouters};
+ghost use Rattle.state.specs.Layout.{flowPlace, routerPlace, stateSize};
 ghost use Rattle.state.specs.Words.{numberWords, tallyWords, registerWords, flowOf};
 ghost use Rattle.state.specs.Read.{flowIn, tallyIn, registerIn, cellIn};
 
