@@ -9,6 +9,7 @@ ghost use lib.Dec.{eqb};
 ghost use lib.ListN.{length, getD};
 ghost use Rattle.laws.specs.Grid.{cellIndex};
 ghost use Rattle.laws.specs.Turns.{turns};
+ghost use Rattle.flow.specs.Limits.{lastClock};
 ghost use Rattle.flow.specs.Plan.{FlowOk};
 ghost use Rattle.state.specs.Read.{sxIn, syIn, countIn, clockIn, stateOf};
 ghost use Rattle.state.proofs.Forms.{StateFacts};
@@ -87,7 +88,7 @@ fn enter(state: &[u32], f: u32, entrants: &mut [u32])
         return;
     }
     let flow = cycle::flow_at(state, f);
-    let client = cycle::router_index(state[0], flow.xs, flow.ys);
+    let client = state::router_index(state[0], flow.xs, flow.ys);
     if entrants[client] != 0 {
         return;
     }
@@ -112,21 +113,21 @@ fn entered(entrants: &[u32], sx: u32, flow: Flow, f: u32) -> bool
     requires { ⌜ (cellIndex sx (flow .xs) (flow .ys) < length (now entrants)) × (f < 256) ⌝ }
     ensures { λ r. ⌜ r ≡ eqb (getD (now (entrants .entry)) (cellIndex sx (flow .xs) (flow .ys)) 0) (f + 1) ⌝ }
 {
-    let client = cycle::router_index(sx, flow.xs, flow.ys);
+    let client = state::router_index(sx, flow.xs, flow.ys);
     entrants[client] == f + 1
 }
 
 // Every flow's next tally, by the entrants of all clients.
 pub fn tally_flows(state: &mut [u32], entrants: &[u32])
     requires { ⌜ StateFacts (now state) ⌝ }
-    requires { ⌜ clockIn (now state) < 4294967295 ⌝ }
+    requires { ⌜ clockIn (now state) < lastClock ⌝ }
     requires { ⌜ Entrants (stateOf (now state)) (countIn (now state)) (now entrants) ⌝ }
     ensures { λ _. ⌜ now (state .exit) ≡ turns (countIn (now (state .entry))) (tallied (now (state .entry))) (now (state .entry)) ⌝ }
 {
-    let sx = state[0];
-    let flows = state[2];
+    let sx = state[state::SX];
+    let flows = state[state::FLOWS];
     for f in 0..flows {
-        let at = state::HEADER_SIZE + state::FLOW_SIZE * (f as usize);
+        let at = state::flow_place(f as usize);
         let flow = state::flow_in(state, at);
         let tally = state::tally_in(state, at);
         let enters = entered(entrants, sx, flow, f);

@@ -19,6 +19,7 @@ ghost use Rattle.state.proofs.Forms.{HeaderFacts, Headed, FlowOf, FlowsFit, Rou
 
 // The most of a flow's period, and of its burst.
 const MOST_PERIOD: u32 = 65535;
+
 const MOST_BURST: u32 = 255;
 
 // The four words from a place on are 0.

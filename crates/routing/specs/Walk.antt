@@ -11,7 +11,7 @@ use Rattle.torus.specs.Axis.{next}
 use Rattle.flow.specs.Plan.{mostSize}
 use Rattle.state.specs.declared.Register.{Register}
 use Rattle.state.specs.declared.Register.the-variants.{Empty}
-use Rattle.state.specs.Layout.{registerSize, routerSize, flowPlace}
+use Rattle.state.specs.Layout.{registerSize, routerSize}
 use Rattle.state.specs.State.{State}
 use Rattle.state.specs.Words.{registerWords}
 use Rattle.state.specs.Read.{sxIn, syIn, countIn, stateOf}
@@ -24,7 +24,7 @@ cellPlace sx x y = routerSize * cellIndex sx x y
 
 -- the grid of a state's routers
 abbrev pub gridIn : (w : List ℕ) → Grid
-gridIn w = record { sx = sxIn w; sy = syIn w; registers = flowPlace (countIn w) }
+gridIn w = record { sx = sxIn w; sy = syIn w; flows = countIn w }
 
 -- column x and row y are on it
 pub record OnGrid (g : Grid) (x y : ℕ) : Type 0 where

@@ -19,11 +19,11 @@ ghost use Rattle.routing.specs.Sent.{sentBy, sentAt, idle};
 ghost use Rattle.cycle.specs.Step.{exits, exitWords, delivered, stepDelivers};
 ghost use Rattle.cycle.specs.Calls.{exitCount};
 
-// The grid of a state's routers: columns, rows, and where the registers begin in the state's words.
+// The grid of a state's routers: columns, rows, and the flows in front of the registers.
 struct Grid {
     sx: u32,
     sy: u32,
-    registers: usize,
+    flows: usize,
 }
 
 // What is sent by the two outputs of a router.
@@ -93,7 +93,7 @@ fn sent_at(state: &[u32], x: u32, y: u32, entrants: &[u32]) -> Sent
     requires { ⌜ Entrants (stateOf (now state)) (countIn (now state)) (now entrants) ⌝ }
     ensures { λ r. ⌜ r ≡ sentAt (stateOf (now (state .entry))) x y ⌝ }
 {
-    let client = cycle::router_index(state[0], x, y);
+    let client = state::router_index(state[0], x, y);
     router_sends(state, x, y, entrants[client])
 }
 
@@ -102,7 +102,7 @@ fn push_east(grid: Grid, x: u32, y: u32, east: Register, next: &mut [u32])
     requires { ⌜ (OnGrid grid x y) × ((flowOf east < mostFlows) × (registersOf grid ≤ length (now next))) ⌝ }
     ensures { λ _. ⌜ now (next .exit) ≡ pushEast grid x y east (now (next .entry)) ⌝ }
 {
-    let router = cycle::router_index(grid.sx, torus::next(grid.sx, x), y);
+    let router = state::router_index(grid.sx, torus::next(grid.sx, x), y);
     state::put_register(next, state::ROUTER_SIZE * router, east);
 }
 
@@ -111,7 +111,7 @@ fn push_south(grid: Grid, x: u32, y: u32, south: Register, next: &mut [u32])
     requires { ⌜ (OnGrid grid x y) × ((flowOf south < mostFlows) × (registersOf grid ≤ length (now next))) ⌝ }
     ensures { λ _. ⌜ now (next .exit) ≡ pushSouth grid x y south (now (next .entry)) ⌝ }
 {
-    let router = cycle::router_index(grid.sx, x, torus::next(grid.sy, y));
+    let router = state::router_index(grid.sx, x, torus::next(grid.sy, y));
     state::put_register(
         next,
         state::ROUTER_SIZE * router + state::REGISTER_SIZE,
@@ -171,11 +171,11 @@ fn is_idle(state: &[u32], grid: Grid, x: u32, y: u32, entrants: &[u32]) -> bool
     requires { ⌜ Entrants (stateOf (now state)) (countIn (now state)) (now entrants) ⌝ }
     ensures { λ r. ⌜ r ≡ idle (stateOf (now (state .entry))) x y ⌝ }
 {
-    let router = cycle::router_index(grid.sx, x, y);
+    let router = state::router_index(grid.sx, x, y);
     if entrants[router] != 0 {
         return false;
     }
-    let cell = state::cell_in(state, grid.registers + state::ROUTER_SIZE * router);
+    let cell = state::cell_in(state, state::router_place(grid.flows, grid.sx, x, y));
     let west = cell.west;
     if !cycle::is_empty(west) {
         return false;
@@ -263,12 +263,12 @@ pub fn route_all(state: &[u32], entrants: &[u32], next: &mut [u32], delivery: &m
     ensures { λ r. ⌜ r ≡ exitCount (stateOf (now (state .entry))) ⌝ }
     ensures { λ _. ⌜ now (delivery .exit) ≡ sets (now (delivery .entry)) 0 (stepDelivers (stateOf (now (state .entry)))) ⌝ }
 {
-    let sy = state[1];
-    let flows = state[2] as usize;
+    let sy = state[state::SY];
+    let flows = state[state::FLOWS] as usize;
     let grid = Grid {
-        sx: state[0],
+        sx: state[state::SX],
         sy,
-        registers: state::HEADER_SIZE + state::FLOW_SIZE * flows,
+        flows,
     };
     let mut done = 0;
     for y in 0..sy {

@@ -17,16 +17,23 @@ ghost use Rattle.state.specs.Read.{flowIn, tallyIn, registerIn, cellIn};
 pub const HEADER_SIZE: usize = 8;
 // Of these, the places of Sx, Sy, F, the clock and the four zeros.
 pub const SX: usize = 0;
+
 pub const SY: usize = 1;
+
 pub const FLOWS: usize = 2;
+
 pub const CLOCK: usize = 3;
+
 pub const ZEROS: usize = 4;
 // The words of a flow.
 const FLOW_SIZE: usize = 10;
 // Of these, the places of its tokens, count, entered and waiting, behind its plan numbers.
 const TOKENS: usize = 6;
+
 const COUNT: usize = 7;
+
 const ENTERED: usize = 8;
+
 const WAITING: usize = 9;
 // The words of a link register.
 pub const REGISTER_SIZE: usize = 4;

@@ -124,7 +124,14 @@ fn put_file(state: &[u32], notes: &[u8], target: &mut [u8])
     let at = start + plan::RECORD_SIZE * count;
     put_notes(notes, target);
     put_records(state, count, target, start);
-    put_trailer(target, at, start as u32, flows, state[state::SX], state[state::SY]);
+    put_trailer(
+        target,
+        at,
+        start as u32,
+        flows,
+        state[state::SX],
+        state[state::SY],
+    );
 }
 
 // Writing from words that form a state.

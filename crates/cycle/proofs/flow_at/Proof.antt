@@ -11,4 +11,4 @@ unfolding stateOf
 returns c = c .flow-in .ensures ∙ rw (c .before .flow-place .ensures) (sym (view-flow _ _ (c .before .before .before .pre .1)))
 
 pub flow-at-spec : {M : Type 1} → statement M
-flow-at-spec = tie.close (tie.spec (λ c. search needs) (λ c κs. search needs) (λ c κs. search needs) returns)
+flow-at-spec = tie.close (tie.spec (λ c κs. search needs) (λ c κs. search needs) returns)

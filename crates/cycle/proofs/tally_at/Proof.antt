@@ -9,4 +9,4 @@ returns : tie.Need-returns
 returns c = c .tally-in .ensures ∙ rw (c .before .flow-place .ensures) (sym (view-tally _ _ (c .before .before .before .pre .1)))
 
 pub tally-at-spec : {M : Type 1} → statement M
-tally-at-spec = tie.close (tie.spec (λ c. search needs) (λ c κs. search needs) (λ c κs. search needs) returns)
+tally-at-spec = tie.close (tie.spec (λ c κs. search needs) (λ c κs. search needs) returns)

@@ -35,8 +35,7 @@ put-record-requires : tie.Need-put-record-requires Inv-loop μ-loop
 put-record-requires c κs =
     let turn = c .before .before .before .before in
     let start = turn .before .before .before in
-    let below : turn .loop .f < countIn (start .args .state .now) = omega (arith, start .pre .0 .1) in
-    (
+    let below : turn .loop .f < countIn (start .args .state .now) = omega (arith, start .pre .0 .1) in (
       omega arith,
       rw (c .flow-in .ensures, c .before .flow-place .ensures) (small-flow (start .args .state .now) (start .pre .0 .0) (turn .loop .f) below),
     )
