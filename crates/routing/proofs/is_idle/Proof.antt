@@ -34,7 +34,8 @@ router-index-requires c κs =
     rw (p .0 .grid) (omega arith)
 
 -- the router's place among all
-index : (c : tie.After-router-index) → let a = c .before .before .before .args in c .router-index .result ≡ cellIndex (sxIn (a .state .now)) (a .x) (a .y)
+index : (c : tie.After-router-index) → let a = c .before .before .before .args in
+    c .router-index .result ≡ cellIndex (sxIn (a .state .now)) (a .x) (a .y)
 index c = c .router-index .ensures .0 ∙ rw (c .before .before .before .pre .0 .grid)
 
 shared-slice-read-if1 : tie.Need-shared-slice-read-if1
