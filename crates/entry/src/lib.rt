@@ -25,7 +25,7 @@ fn port_open(state: &[u32], flow: Flow) -> bool
     let cell = cycle::cell_at(state, flow.xs, flow.ys);
     let west = cell.west;
     let north = cell.north;
-    let port = flow.port(state[0]);
+    let port = flow.port(state[state::SX]);
     match port {
         Port::East => cycle::is_empty(west),
         Port::South => {
@@ -88,7 +88,7 @@ fn enter(state: &[u32], f: u32, entrants: &mut [u32])
         return;
     }
     let flow = cycle::flow_at(state, f);
-    let client = state::router_index(state[0], flow.xs, flow.ys);
+    let client = state::router_index(state[state::SX], flow.xs, flow.ys);
     if entrants[client] != 0 {
         return;
     }
@@ -101,7 +101,7 @@ pub fn find_entrants(state: &[u32], entrants: &mut [u32])
     requires { ⌜ Entrants (stateOf (now state)) 0 (now entrants) ⌝ }
     ensures { λ _. ⌜ Entrants (stateOf (now (state .entry))) (countIn (now (state .entry))) (now (entrants .exit)) ⌝ }
 {
-    let flows = state[2];
+    let flows = state[state::FLOWS];
     for f in 0..flows {
         enter(state, f, entrants);
     }

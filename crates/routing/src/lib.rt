@@ -29,6 +29,9 @@ struct Grid {
     flows: usize,
 }
 
+// The words of an exit.
+pub const EXIT_SIZE: usize = 5;
+
 // What is sent by the two outputs of a router.
 struct Sent {
     east: Register,
@@ -54,10 +57,10 @@ fn client_sends(state: &[u32], who: u32) -> Sent
     let packet = Register::Packet {
         flow: f,
         serial: tally.entered + 1,
-        entry: state[3],
+        entry: state[state::CLOCK],
         deflections: 0,
     };
-    let port = flow.port(state[0]);
+    let port = flow.port(state[state::SX]);
     match port {
         Port::East => Sent {
             east: packet,
@@ -94,7 +97,7 @@ fn sent_at(state: &[u32], x: u32, y: u32, entrants: &[u32]) -> Sent
     requires { ⌜ Entrants (stateOf (now state)) (countIn (now state)) (now entrants) ⌝ }
     ensures { λ r. ⌜ r ≡ sentAt (stateOf (now (state .entry))) x y ⌝ }
 {
-    let client = state::router_index(state[0], x, y);
+    let client = state::router_index(state[state::SX], x, y);
     router_sends(state, x, y, entrants[client])
 }
 
@@ -160,7 +163,7 @@ fn deliver(exits: bool, south: Register, clock: u32, delivery: &mut [u32], count
     ensures { λ _. ⌜ now (delivery .exit) ≡ sets (now (delivery .entry)) (exitSize * count) (wordsOf (leaving clock (cond exits south Empty))) ⌝ }
 {
     if exits {
-        put_exit(delivery, 5 * (count as usize), south, clock);
+        put_exit(delivery, EXIT_SIZE * (count as usize), south, clock);
         return count + 1;
     }
     count
@@ -219,7 +222,7 @@ fn route(
     let exits = cycle::exits(state, x, y, south);
     push_east(grid, x, y, east, next);
     push_south(grid, x, y, unless_exits(exits, south), next);
-    deliver(exits, south, state[3], delivery, count)
+    deliver(exits, south, state[state::CLOCK], delivery, count)
 }
 
 // The routers of row y, after `count` exits.
