@@ -1,15 +1,16 @@
--- The two laws of the regulator: how often a flow enters in neighbouring cycles, and how long it is without a token.
--- What they rest on from reset is `Regulated`, whose fields nobody else reads. Rests on specs/Regulator.
-use mathlib.Core.Bool.{Bool, true, false, cond}
+-- The two laws of the regulator: how often a flow enters in neighbouring cycles, and how long it is without a token; and
+-- what a bucket that fits has. What they rest on from reset is `Regulated`, whose fields nobody else reads. Rests on specs/Regulator.
+use mathlib.Core.Bool.{Bool, true, false, cond, _&&_}
 use mathlib.Core.Logic.{_⊎_, inl, inr}
 use mathlib.Core.Path.{_≡_, refl, ap, _∙_}
 use Prim.Native.Nat.{ℕ, _+_, _-_, _*_, _≤_, _<_}
 use native.Mathlib.Nat.{le-div-iff-mul-le, mul-le-mul-right}
 use native.Mathlib.Decide.{ℕ-discrete, decLe, decLt}
 use native.Mathlib.Omega.{arith}
-use borrow.Author.Tests.{lt-ltb, le-ltb, le-leb, eq-eqb, ne-eqb}
-use lib.Dec.{ltb}
+use borrow.Author.Tests.{lt-ltb, le-ltb, le-leb, eq-eqb, ne-eqb, ltb-true}
+use lib.Dec.{ltb, leb}
 use Rattle.laws.specs.Count.{one}
+use Rattle.laws.proofs.Cases.{and-true}
 use Rattle.bucket.specs.declared.Bucket.{Bucket}
 use Rattle.bucket.specs.Regulator.{fullBucket, afterSpend, afterCount, afterCycle, bucketFits}
 use Rattle.bucket.specs.Curve.{curve}
@@ -206,6 +207,7 @@ module _ (burst period : ℕ) where
         stay (stays l t c) = omega arith
 
     pub fits : bucketFits burst period b ≡ true
+    unfolding bucketFits
     fits =
         rw (le-leb (b .tokens) burst (held .tokens-most), lt-ltb (b .count) period (held .count-below))
         (elim (ℕ-discrete (b .tokens) burst) [
@@ -213,7 +215,17 @@ module _ (burst period : ℕ) where
           | no e ↦ rw (ne-eqb (b .tokens) burst e)
         ])
 
-  -- at reset
+  -- a bucket that fits, and the one at reset
+  pub fitting-count : (b : Bucket) → bucketFits burst period b ≡ true → b .count < period
+  unfolding bucketFits
+  fitting-count b e =
+      let both = and-true (leb (b .tokens) burst && ltb (b .count) period) _ e .0 in
+      ltb-true _ _ (and-true (leb (b .tokens) burst) (ltb (b .count) period) both .1)
+
+  pub full-fits : 1 ≤ period → bucketFits burst period (fullBucket burst) ≡ true
+  unfolding bucketFits
+  full-fits k = rw (le-leb burst burst (omega arith), lt-ltb 0 period k, eq-eqb burst burst refl)
+
   pub reset : 1 ≤ burst → 1 ≤ period → (n : ℕ → ℕ → ℕ) → n 0 0 ≡ 0 → Regulated burst period (fullBucket burst) 0 n
   reset h k n none =
       record {

@@ -26,6 +26,6 @@ unfoldable pub afterCycle : ℕ → ℕ → Bool → Bucket → Bucket
 afterCycle burst period entered b = afterCount burst period (cond entered (afterSpend b) b)
 
 -- in words that form a state: tokens ≤ σ; count < P, and 0 when tokens = σ
-abbrev pub bucketFits : ℕ → ℕ → Bucket → Bool
+unfoldable pub bucketFits : ℕ → ℕ → Bucket → Bool
 bucketFits burst period b =
     leb (b .tokens) burst && ltb (b .count) period && cond (eqb (b .tokens) burst) (eqb (b .count) 0) true

@@ -1,23 +1,17 @@
 -- What the words of a state give to one cycle: room, flows in range, few deflections. Rests on the facts of state.
-use mathlib.Core.Bool.{true, _&&_}
+use mathlib.Core.Bool.{true}
 use mathlib.Core.List.{List}
 use mathlib.Core.Path.{_≡_, refl}
 use Prim.Native.Nat.{ℕ, _+_, _-_, _*_, _≤_, _<_}
 use native.Mathlib.Nat.{mul-le-mul}
 use native.Mathlib.Omega.{arith}
-use borrow.Author.Tests.{leb-true}
-use lib.Dec.{leb, eqb}
 use lib.ListN.{length}
-use Rattle.laws.proofs.Cases.{and-true}
-use Rattle.torus.proofs.Axis.{offset-below}
-use Rattle.flow.specs.declared.Flow.{Flow}
-use Rattle.flow.specs.Offsets.{ΔX, ΔY}
 use Rattle.flow.specs.Plan.{mostSize, flowAt, FlowOk}
 use Rattle.place.specs.Place.{Place, W, N}
-use Rattle.place.specs.InPlace.{inPlace, inNorth, rowsDone}
+use Rattle.place.proofs.InPlace.{north-deflected}
 use Rattle.state.specs.declared.Register.{Register}
 use Rattle.state.specs.declared.Register.the-variants.{Empty, Packet}
-use Rattle.state.specs.Layout.{registerSize, routerSize, flowPlace}
+use Rattle.state.specs.Layout.{registerSize, routerSize, mostRouters, flowPlace}
 use Rattle.state.specs.State.{tallyAt, cellAt}
 use Rattle.state.specs.Words.{flowOf}
 use Rattle.state.specs.Read.{sxIn, syIn, countIn, clockIn, flowIn, registerIn, routerIn, stateOf}
@@ -35,8 +29,8 @@ module _ (w : List ℕ) (s : StateFacts w) where
       omega (arith, router-below (countIn w) (sxIn w) (syIn w) x y h k)
 
   -- at most 256 routers
-  pub cells-most : sxIn w * syIn w ≤ 256
-  cells-most = mul-le-mul {n₁ = sxIn w} {m₁ = syIn w} {n₂ = 16} {m₂ = 16} (s .header .sx-ok .most) (s .header .sy-ok .most)
+  pub cells-most : sxIn w * syIn w ≤ mostRouters
+  cells-most = mul-le-mul (s .header .sx-ok .most) (s .header .sy-ok .most)
 
   -- flow f's numbers and tally are in their ranges
   pub flow-ok : (f : ℕ) → f < countIn w → FlowOk (sxIn w) (syIn w) (flowAt ((stateOf w) .plan) f)
@@ -62,26 +56,17 @@ module _ (w : List ℕ) (s : StateFacts w) where
     pub north-flow : flowOf ((cellAt (stateOf w) x y) .north) < countIn w
     north-flow = rw (view-cell w x y h k) (flow-below (N x y) (routerIn w x y + registerSize) (s .north x y h k))
 
-    -- a packet in N has been deflected in some of the rows that it has passed
+    -- a packet in N has been deflected in fewer rows than there are
     pub north-deflections : deflectionsOf ((cellAt (stateOf w) x y) .north) < mostSize
-    unfolding inPlace
     north-deflections = rw (view-cell w x y h k) (of (registerIn w at) refl)
       where
         at : ℕ
         at = routerIn w x y + registerSize
 
-        few : (f : Flow) (D e : ℕ) → FlowOk (sxIn w) (syIn w) f → inPlace (sxIn w) (syIn w) f (N x y) D e ≡ true → D < mostSize
-        few f D e ok q =
-            let sizes = s .header .sy-ok in
-            let r = rowsDone (syIn w) f y in
-            let far = offset-below (syIn w) (f .ys) y (ok .ys-on) k in
-            let all = and-true (leb 1 e) (inNorth (sxIn w) (syIn w) f x r D e) q .1 in
-            let four = and-true (eqb x (f .xd) && leb 1 r && leb r (ΔY (syIn w) f) && leb D (r - 1)) (eqb e (ΔX (sxIn w) f + r + D * sxIn w)) all .0 in
-            let D-most = leb-true D (r - 1) (and-true (eqb x (f .xd) && leb 1 r && leb r (ΔY (syIn w) f)) (leb D (r - 1)) four .1) in
-            omega arith
-
         of : (r : Register) → registerIn w at ≡ r → deflectionsOf r < mostSize
         of Empty q = omega arith
         of (Packet flow serial entry deflections) q =
             let p = packet-facts w (N x y) at (s .north x y h k) flow serial entry deflections q in
-            few (flowIn w (flowPlace flow)) deflections (clockIn w - entry) (s .flow flow (p .flow-below) .numbers) (p .in-place)
+            let numbers = s .flow flow (p .flow-below) .numbers in
+            let most = s .header .sy-ok in
+            omega (arith, north-deflected (sxIn w) (syIn w) (flowIn w (flowPlace flow)) x y deflections (clockIn w - entry) numbers k (p .in-place))

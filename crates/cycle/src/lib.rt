@@ -4,13 +4,12 @@ use state::Cell;
 use state::Register;
 use state::Tally;
 ghost use mathlib.Core.Path.{_≡_};
-ghost use Prim.Native.Nat.{_+_, _*_, _<_, _≤_};
-ghost use Rattle.laws.specs.Grid.{cellIndex};
+ghost use Prim.Native.Nat.{_<_};
 ghost use Rattle.flow.specs.Plan.{mostSize, flowAt};
 ghost use Rattle.router.specs.Rule.{turnsSouth};
 ghost use Rattle.state.specs.State.{tallyAt, cellAt};
 ghost use Rattle.state.specs.Words.{flowOf};
-ghost use Rattle.state.specs.Read.{sxIn, syIn, countIn, routerIn, stateOf};
+ghost use Rattle.state.specs.Read.{sxIn, syIn, countIn, stateOf};
 ghost use Rattle.state.proofs.Forms.{StateFacts};
 ghost use Rattle.cycle.specs.Seen.{shown};
 ghost use Rattle.cycle.specs.Step.{deflected};
@@ -87,33 +86,13 @@ pub fn sent_south(turning: bool, west: Register, north: Register, client: Regist
     or_else(north, client)
 }
 
-// Where the router in column x and row y stands among the routers.
-pub fn router_index(sx: u32, x: u32, y: u32) -> usize
-    requires { ⌜ (sx ≤ 16) × ((x < sx) × (y < 16)) ⌝ }
-    ensures { λ r. ⌜ (r ≡ cellIndex sx x y) × (r < 256) ⌝ }
-{
-    (y * sx + x) as usize
-}
-
-// Where its registers stand.
-fn router_place(state: &[u32], x: u32, y: u32) -> usize
-    requires { ⌜ StateFacts (now state) ⌝ }
-    requires { ⌜ (x < sxIn (now state)) × (y < syIn (now state)) ⌝ }
-    ensures { λ r. ⌜ r ≡ routerIn (now (state .entry)) x y ⌝ }
-{
-    let flows = state[2] as usize;
-    state::HEADER_SIZE
-        + state::FLOW_SIZE * flows
-        + state::ROUTER_SIZE * router_index(state[0], x, y)
-}
-
 // The plan numbers of flow f.
 pub fn flow_at(state: &[u32], f: u32) -> Flow
     requires { ⌜ StateFacts (now state) ⌝ }
     requires { ⌜ f < countIn (now state) ⌝ }
     ensures { λ r. ⌜ r ≡ flowAt ((stateOf (now (state .entry))) .plan) f ⌝ }
 {
-    state::flow_in(state, state::HEADER_SIZE + state::FLOW_SIZE * (f as usize))
+    state::flow_in(state, state::flow_place(f as usize))
 }
 
 // Its bucket, entered and waiting.
@@ -122,7 +101,7 @@ pub fn tally_at(state: &[u32], f: u32) -> Tally
     requires { ⌜ f < countIn (now state) ⌝ }
     ensures { λ r. ⌜ r ≡ tallyAt (stateOf (now (state .entry))) f ⌝ }
 {
-    state::tally_in(state, state::HEADER_SIZE + state::FLOW_SIZE * (f as usize))
+    state::tally_in(state, state::flow_place(f as usize))
 }
 
 // The registers of the router in column x and row y.
@@ -131,7 +110,8 @@ pub fn cell_at(state: &[u32], x: u32, y: u32) -> Cell
     requires { ⌜ (x < sxIn (now state)) × (y < syIn (now state)) ⌝ }
     ensures { λ r. ⌜ r ≡ cellAt (stateOf (now (state .entry))) x y ⌝ }
 {
-    state::cell_in(state, router_place(state, x, y))
+    let flows = state[state::FLOWS] as usize;
+    state::cell_in(state, state::router_place(flows, state[state::SX], x, y))
 }
 
 // A W packet in column x goes S.

@@ -1,43 +1,68 @@
--- A flow's words, before its own turn, in the words that the turns of the flows below it leave. Rests on the laws of a state's words.
+-- The words that the turns over the flows leave hold the state, with the next tallies of the flows passed. Rests on the laws
+-- of a state's words.
+use mathlib.Core.Bool.{cond}
 use mathlib.Core.List.{List}
-use mathlib.Core.Logic.{inr}
-use mathlib.Core.Path.{_≡_, sym, _∙_}
-use Prim.Native.Nat.{ℕ, _+_, _<_}
+use mathlib.Core.Logic.{_≢_}
+use mathlib.Core.Path.{_≡_, refl, _∙_}
+use Prim.Native.Nat.{ℕ, zero, suc, _+_, _≤_, _<_}
+use native.Mathlib.Decide.{decLt}
 use native.Mathlib.Omega.{arith}
+use borrow.Author.Tests.{lt-ltb, le-ltb}
+use lib.Dec.{ltb}
+use lib.ListN.{length, drop}
+use lib.Seq.{sets}
 use Rattle.laws.specs.Turns.{turns}
-use Rattle.laws.proofs.Turns.{turns-keep}
-use Rattle.laws.proofs.Stands.{Stands, stands-other}
+use Rattle.laws.proofs.Turns.{turns-more}
 use Rattle.flow.specs.Plan.{flowAt}
-use Rattle.state.specs.Layout.{numberSize, flowPlace}
-use Rattle.state.specs.State.{tallyAt}
-use Rattle.state.specs.Words.{tallyWords, flowWords}
+use Rattle.state.specs.declared.Tally.{Tally}
+use Rattle.state.specs.Layout.{flowPlace, numberSize}
+use Rattle.state.specs.State.{tallyAt, cellAt}
+use Rattle.state.specs.Words.{tallyWords}
 use Rattle.state.specs.Read.{countIn, flowIn, tallyIn, stateOf}
+use Rattle.state.specs.Calls.{planSize}
 use Rattle.state.proofs.Forms.{StateFacts}
-use Rattle.state.proofs.View.{view-flow, view-tally}
+use Rattle.state.proofs.View.{view-count}
 use Rattle.state.proofs.Read.{flow-read, tally-read}
-use Rattle.state.proofs.Again.{flow-again}
+use Rattle.state.proofs.Holds.{Holds, hold-same, tally-written}
+use Rattle.state.proofs.Again.{state-again}
 use Rattle.cycle.specs.Step.{nextTally}
 use Rattle.entry.specs.Entrants.{tallied}
 
-module _ (w : List ℕ) (s : StateFacts w) (f : ℕ) (below : f < countIn w) where
-  -- the words after the turns of the flows below f
-  abbrev turned : List ℕ
-  turned = turns f (tallied w) w
+module _ (w : List ℕ) (s : StateFacts w) where
+  -- the tallies after n flows
+  abbrev pub talliesAfter : (n f : ℕ) → Tally
+  talliesAfter n f = cond (ltb f n) (nextTally (stateOf w) f) (tallyAt (stateOf w) f)
 
-  abbrev Untouched : List ℕ → Type 0
-  Untouched m = Stands 0 m (flowPlace f) (flowWords (flowIn w (flowPlace f)) (tallyIn w (flowPlace f)))
-
-  untouched : Untouched turned
-  unfolding tallied
-  untouched =
-      let long = s .long in
-      turns-keep f (tallied w) Untouched
-      (λ g m h p. stands-other 0 m (flowPlace f) (flowWords (flowIn w (flowPlace f)) (tallyIn w (flowPlace f))) (flowPlace g + numberSize) (tallyWords (nextTally (stateOf w) g)) p (inr (omega arith)))
-      f w (omega arith) (flow-again w (flowPlace f) (omega arith))
-
-  pub turned-flow : flowIn turned (flowPlace f) ≡ flowAt ((stateOf w) .plan) f
+  pub counted : length ((stateOf w) .plan .flows) ≡ countIn w
   unfolding stateOf
-  turned-flow = flow-read turned (flowPlace f) _ _ untouched ∙ sym (view-flow w f below)
+  counted = view-count w
 
-  pub turned-tally : tallyIn turned (flowPlace f) ≡ tallyAt (stateOf w) f
-  turned-tally = tally-read turned (flowPlace f) _ _ untouched ∙ sym (view-tally w f below)
+  pub turned : (n : ℕ) → n ≤ countIn w
+      → Holds ((stateOf w) .plan) ((stateOf w) .clock) (talliesAfter n) (cellAt (stateOf w)) (drop (planSize ((stateOf w) .plan)) w) (turns n (tallied w) w)
+  unfolding turns tallied
+  turned zero h = hold-same _ _ _ _ _ _ (state-again w s) (talliesAfter 0) _ (λ f l. rw (le-ltb f 0 (omega arith))) (λ x y l k. refl)
+  turned (suc n) h =
+      let now : talliesAfter (suc n) n ≡ nextTally (stateOf w) n = rw (lt-ltb n (suc n) (omega arith)) in
+      rw (← now)
+      (tally-written _ _ (talliesAfter n) _ _ _ (turned n (omega arith)) n (rw counted h) (talliesAfter (suc n)) others)
+    where
+      others : (g : ℕ) → g ≢ n → talliesAfter (suc n) g ≡ talliesAfter n g
+      others g ne =
+          elim (decLt g n) [
+            | yes l ↦ rw (lt-ltb g (suc n) (omega arith), lt-ltb g n l)
+            | no l ↦ rw (le-ltb g (suc n) (omega arith), le-ltb g n (omega arith))
+          ]
+
+  -- flow f's words, before its own turn, and its turn
+  module _ (f : ℕ) (below : f < countIn w) (l : List ℕ) (at : ℕ) (now : l ≡ turns f (tallied w) w) (place : at ≡ flowPlace f) where
+    pub turned-flow : flowIn l at ≡ flowAt ((stateOf w) .plan) f
+    turned-flow = rw (now, place) (flow-read _ (flowPlace f) _ _ (turned f (omega arith) .front .flow f (rw counted below)))
+
+    pub turned-tally : tallyIn l at ≡ tallyAt (stateOf w) f
+    turned-tally =
+        rw (now, place)
+        (tally-read _ (flowPlace f) _ _ (turned f (omega arith) .front .flow f (rw counted below)) ∙ rw (le-ltb f f (omega arith)))
+
+    pub turned-more : (t : Tally) → t ≡ nextTally (stateOf w) f → sets l (at + numberSize) (tallyWords t) ≡ turns (f + 1) (tallied w) w
+    unfolding tallied
+    turned-more t e = rw (place, e) (turns-more f (tallied w) w l now)

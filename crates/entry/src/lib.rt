@@ -25,7 +25,7 @@ fn port_open(state: &[u32], flow: Flow) -> bool
     let cell = cycle::cell_at(state, flow.xs, flow.ys);
     let west = cell.west;
     let north = cell.north;
-    let port = flow.port(state[0]);
+    let port = flow.port(state[state::SX]);
     match port {
         Port::East => cycle::is_empty(west),
         Port::South => {
@@ -88,7 +88,7 @@ fn enter(state: &[u32], f: u32, entrants: &mut [u32])
         return;
     }
     let flow = cycle::flow_at(state, f);
-    let client = cycle::router_index(state[0], flow.xs, flow.ys);
+    let client = state::router_index(state[state::SX], flow.xs, flow.ys);
     if entrants[client] != 0 {
         return;
     }
@@ -101,7 +101,7 @@ pub fn find_entrants(state: &[u32], entrants: &mut [u32])
     requires { ⌜ Entrants (stateOf (now state)) 0 (now entrants) ⌝ }
     ensures { λ _. ⌜ Entrants (stateOf (now (state .entry))) (countIn (now (state .entry))) (now (entrants .exit)) ⌝ }
 {
-    let flows = state[2];
+    let flows = state[state::FLOWS];
     for f in 0..flows {
         enter(state, f, entrants);
     }
@@ -113,7 +113,7 @@ fn entered(entrants: &[u32], sx: u32, flow: Flow, f: u32) -> bool
     requires { ⌜ (cellIndex sx (flow .xs) (flow .ys) < length (now entrants)) × (f < mostFlows) ⌝ }
     ensures { λ r. ⌜ r ≡ isFlow f (entrantIn (getD (now (entrants .entry)) (cellIndex sx (flow .xs) (flow .ys)) 0)) ⌝ }
 {
-    let client = cycle::router_index(sx, flow.xs, flow.ys);
+    let client = state::router_index(sx, flow.xs, flow.ys);
     entrants[client] == f + 1
 }
 
@@ -124,10 +124,10 @@ pub fn tally_flows(state: &mut [u32], entrants: &[u32])
     requires { ⌜ Entrants (stateOf (now state)) (countIn (now state)) (now entrants) ⌝ }
     ensures { λ _. ⌜ now (state .exit) ≡ turns (countIn (now (state .entry))) (tallied (now (state .entry))) (now (state .entry)) ⌝ }
 {
-    let sx = state[0];
-    let flows = state[2];
+    let sx = state[state::SX];
+    let flows = state[state::FLOWS];
     for f in 0..flows {
-        let at = state::HEADER_SIZE + state::FLOW_SIZE * (f as usize);
+        let at = state::flow_place(f as usize);
         let flow = state::flow_in(state, at);
         let tally = state::tally_in(state, at);
         let enters = entered(entrants, sx, flow, f);

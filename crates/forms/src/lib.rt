@@ -3,17 +3,24 @@ use flow::Flow;
 use place::Input;
 use state::Register;
 use state::Tally;
-ghost use mathlib.Core.Bool.{true};
+ghost use mathlib.Core.Bool.{_&&_};
 ghost use mathlib.Core.Path.{_≡_};
 ghost use Prim.Native.Nat.{_+_, _≤_, _<_};
-ghost use lib.Dec.{eqb};
+ghost use lib.Dec.{leb, eqb};
 ghost use lib.ListN.{length, getD};
 ghost use Rattle.laws.specs.Bounded.{allBelow};
 ghost use Rattle.place.specs.Input.{placeOf};
 ghost use Rattle.state.specs.declared.Register.the-variants.{Packet};
-ghost use Rattle.state.specs.Layout.{headerSize, flowSize, registerSize, flowPlace};
-ghost use Rattle.state.specs.Read.{sxIn, syIn, routerIn};
-ghost use Rattle.state.specs.Forms.{headerFits, numbersFit, tallyFits, flowFits, FlowsFit, contentsFit, registerFits, cellFits, sizeIn, stateNumber};
+ghost use Rattle.flow.specs.Plan.{FlowOk};
+ghost use Rattle.state.specs.Layout.{headerSize, flowSize, registerSize};
+ghost use Rattle.state.specs.Read.{sxIn, syIn, countIn, flowIn};
+ghost use Rattle.state.specs.Forms.{headerFits, numbersFit, tallyFits, flowFits, isPlaced, contentsFit, registerFits, cellFits, sizeIn, stateNumber};
+ghost use Rattle.state.proofs.Forms.{HeaderFacts, Headed, FlowOf, FlowsFit, RouterOf};
+
+// The most of a flow's period, and of its burst.
+const MOST_PERIOD: u32 = 65535;
+
+const MOST_BURST: u32 = 255;
 
 // The four words from a place on are 0.
 fn four_zero(w: &[u32], at: usize) -> bool
@@ -23,24 +30,31 @@ fn four_zero(w: &[u32], at: usize) -> bool
     w[at] | w[at + 1] | w[at + 2] | w[at + 3] == 0
 }
 
+// A number lies in 1..most.
+fn in_range(n: u32, most: u32) -> bool
+    ensures { λ r. ⌜ r ≡ leb 1 n && leb n most ⌝ }
+{
+    if n < 1 {
+        return false;
+    }
+    n <= most
+}
+
 // The first eight words are those of a state.
 fn header_fits(w: &[u32]) -> bool
     requires { ⌜ headerSize ≤ length (now w) ⌝ }
     ensures { λ r. ⌜ r ≡ headerFits (now (w .entry)) ⌝ }
 {
-    if !plan::size_ok(w[0]) {
+    if !plan::size_ok(w[state::SX]) {
         return false;
     }
-    if !plan::size_ok(w[1]) {
+    if !plan::size_ok(w[state::SY]) {
         return false;
     }
-    if w[2] < 1 {
+    if !in_range(w[state::FLOWS], plan::MOST_FLOWS) {
         return false;
     }
-    if 256 < w[2] {
-        return false;
-    }
-    four_zero(w, 4)
+    four_zero(w, state::ZEROS)
 }
 
 // A flow's plan numbers lie in their ranges.
@@ -50,16 +64,10 @@ fn numbers_fit(sx: u32, sy: u32, f: Flow) -> bool
     if !f.on_torus(sx, sy) {
         return false;
     }
-    if f.period < 1 {
+    if !in_range(f.period, MOST_PERIOD) {
         return false;
     }
-    if 65535 < f.period {
-        return false;
-    }
-    if f.burst < 1 {
-        return false;
-    }
-    f.burst <= 255
+    in_range(f.burst, MOST_BURST)
 }
 
 // A flow's bucket, entered and waiting are those of a state.
@@ -78,28 +86,51 @@ fn tally_fits(clock: u32, f: Flow, t: Tally) -> bool
 
 // The words of flow f are those of a state.
 fn flow_fits(w: &[u32], f: usize) -> bool
-    requires { ⌜ flowPlace f + flowSize ≤ length (now w) ⌝ }
+    requires { ⌜ FlowOf (now w) f ⌝ }
     ensures { λ r. ⌜ r ≡ flowFits (now (w .entry)) f ⌝ }
 {
-    let at = state::HEADER_SIZE + state::FLOW_SIZE * f;
+    let at = state::flow_place(f);
     let flow = state::flow_in(w, at);
-    if !numbers_fit(w[0], w[1], flow) {
+    if !numbers_fit(w[state::SX], w[state::SY], flow) {
         return false;
     }
-    tally_fits(w[3], flow, state::tally_in(w, at))
+    tally_fits(w[state::CLOCK], flow, state::tally_in(w, at))
 }
 
 // Every flow's words are those of a state.
-fn flows_fit(w: &[u32], count: usize) -> bool
-    requires { ⌜ flowPlace count ≤ length (now w) ⌝ }
-    ensures { λ r. ⌜ r ≡ allBelow count (flowFits (now (w .entry))) ⌝ }
+fn flows_fit(w: &[u32]) -> bool
+    requires { ⌜ Headed (now w) ⌝ }
+    ensures { λ r. ⌜ r ≡ allBelow (countIn (now (w .entry))) (flowFits (now (w .entry))) ⌝ }
 {
+    let count = w[state::FLOWS] as usize;
     for f in 0..count {
         if !flow_fits(w, f) {
             return false;
         }
     }
     true
+}
+
+// A packet of the flow at a place entered before the clock, and is in place.
+fn is_placed(w: &[u32], input: Input, x: u32, y: u32, at: usize, entry: u32, d: u32) -> bool
+    requires { ⌜ RouterOf (now w) x y ⌝ }
+    requires { ⌜ (at + flowSize ≤ length (now w)) × FlowOk (sxIn (now w)) (syIn (now w)) (flowIn (now w) at) ⌝ }
+    ensures { λ r. ⌜ r ≡ isPlaced (now (w .entry)) (placeOf input x y) at entry d ⌝ }
+{
+    let clock = w[state::CLOCK];
+    if clock <= entry {
+        return false;
+    }
+    place::in_place(
+        w[state::SX],
+        w[state::SY],
+        state::flow_in(w, at),
+        input,
+        x,
+        y,
+        d,
+        clock - entry,
+    )
 }
 
 // The packet of a register is that of a state.
@@ -113,40 +144,23 @@ fn packet_fits(
     entry: u32,
     d: u32,
 ) -> bool
-    requires { ⌜ FlowsFit (now w) ⌝ }
-    requires { ⌜ (x < sxIn (now w)) × (y < syIn (now w)) ⌝ }
+    requires { ⌜ RouterOf (now w) x y ⌝ }
     ensures { λ r. ⌜ r ≡ contentsFit (now (w .entry)) (placeOf input x y) 0 (Packet flow serial entry d) ⌝ }
 {
-    if w[2] <= flow {
+    if w[state::FLOWS] <= flow {
         return false;
     }
-    if serial < 1 {
+    let at = state::flow_place(flow as usize);
+    if !in_range(serial, state::entered_in(w, at)) {
         return false;
     }
-    let at = state::HEADER_SIZE + state::FLOW_SIZE * (flow as usize);
-    if w[at + 8] < serial {
-        return false;
-    }
-    let clock = w[3];
-    if clock <= entry {
-        return false;
-    }
-    place::in_place(
-        w[0],
-        w[1],
-        state::flow_in(w, at),
-        input,
-        x,
-        y,
-        d,
-        clock - entry,
-    )
+    is_placed(w, input, x, y, at, entry, d)
 }
 
 // The four words of a register are those of a state.
 fn register_fits(w: &[u32], input: Input, x: u32, y: u32, at: usize) -> bool
-    requires { ⌜ FlowsFit (now w) ⌝ }
-    requires { ⌜ (x < sxIn (now w)) × ((y < syIn (now w)) × (at + registerSize ≤ length (now w))) ⌝ }
+    requires { ⌜ RouterOf (now w) x y ⌝ }
+    requires { ⌜ at + registerSize ≤ length (now w) ⌝ }
     ensures { λ r. ⌜ r ≡ registerFits (now (w .entry)) (placeOf input x y) at ⌝ }
 {
     match state::register_at(w, at) {
@@ -160,27 +174,16 @@ fn register_fits(w: &[u32], input: Input, x: u32, y: u32, at: usize) -> bool
     }
 }
 
-// Where the registers of the router in column x and row y stand.
-fn router_at(w: &[u32], x: u32, y: u32) -> usize
-    requires { ⌜ (headerSize ≤ length (now w)) × (headerFits (now w) ≡ true) ⌝ }
-    requires { ⌜ (x < sxIn (now w)) × (y < syIn (now w)) ⌝ }
-    ensures { λ r. ⌜ r ≡ routerIn (now (w .entry)) x y ⌝ }
-{
-    let cell = y * w[0] + x;
-    state::HEADER_SIZE + state::FLOW_SIZE * (w[2] as usize) + state::ROUTER_SIZE * (cell as usize)
-}
-
 // Both registers of a router are those of a state.
 fn cell_fits(w: &[u32], x: u32, y: u32) -> bool
-    requires { ⌜ FlowsFit (now w) ⌝ }
-    requires { ⌜ (x < sxIn (now w)) × (y < syIn (now w)) ⌝ }
+    requires { ⌜ RouterOf (now w) x y ⌝ }
     ensures { λ r. ⌜ r ≡ cellFits (now (w .entry)) x y ⌝ }
 {
-    let at = router_at(w, x, y);
+    let at = state::router_place(w[state::FLOWS] as usize, w[state::SX], x, y);
     if !register_fits(w, Input::West, x, y, at) {
         return false;
     }
-    register_fits(w, Input::North, x, y, at + 4)
+    register_fits(w, Input::North, x, y, at + state::REGISTER_SIZE)
 }
 
 // All registers of a row are those of a state.
@@ -189,7 +192,7 @@ fn row_fits(w: &[u32], y: u32) -> bool
     requires { ⌜ y < syIn (now w) ⌝ }
     ensures { λ r. ⌜ r ≡ allBelow (sxIn (now (w .entry))) (λ x. cellFits (now (w .entry)) x y) ⌝ }
 {
-    let sx = w[0];
+    let sx = w[state::SX];
     for x in 0..sx {
         if !cell_fits(w, x, y) {
             return false;
@@ -203,7 +206,7 @@ fn rows_fit(w: &[u32]) -> bool
     requires { ⌜ FlowsFit (now w) ⌝ }
     ensures { λ r. ⌜ r ≡ allBelow (syIn (now (w .entry))) (λ y. allBelow (sxIn (now (w .entry))) (λ x. cellFits (now (w .entry)) x y)) ⌝ }
 {
-    let sy = w[1];
+    let sy = w[state::SY];
     for y in 0..sy {
         if !row_fits(w, y) {
             return false;
@@ -214,12 +217,10 @@ fn rows_fit(w: &[u32]) -> bool
 
 // The size that the header asks for.
 fn size_in(w: &[u32]) -> usize
-    requires { ⌜ (headerSize ≤ length (now w)) × (headerFits (now w) ≡ true) ⌝ }
+    requires { ⌜ (headerSize ≤ length (now w)) × HeaderFacts (now w) ⌝ }
     ensures { λ r. ⌜ r ≡ sizeIn (now (w .entry)) ⌝ }
 {
-    state::HEADER_SIZE
-        + state::FLOW_SIZE * (w[2] as usize)
-        + state::ROUTER_SIZE * ((w[0] * w[1]) as usize)
+    state::size(w[state::FLOWS] as usize, w[state::SX], w[state::SY])
 }
 
 // 0 for words that form a state, otherwise 8 or 9: what every call on a state refuses first.
@@ -227,7 +228,7 @@ pub fn state_number(w: &[u32]) -> u32
     ensures { λ r. ⌜ r ≡ stateNumber (now (w .entry)) ⌝ }
 {
     let length = w.len();
-    if length < 8 {
+    if length < state::HEADER_SIZE {
         return 8;
     }
     if !header_fits(w) {
@@ -236,7 +237,7 @@ pub fn state_number(w: &[u32]) -> u32
     if length < size_in(w) {
         return 8;
     }
-    if !flows_fit(w, w[2] as usize) {
+    if !flows_fit(w) {
         return 9;
     }
     if !rows_fit(w) {

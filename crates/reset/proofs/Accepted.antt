@@ -5,19 +5,18 @@ use mathlib.Core.Path.{_≡_, refl, ap}
 use Prim.Native.Nat.{ℕ, _≤_, _<_}
 use native.Mathlib.Decide.{decLe}
 use native.Mathlib.Omega.{arith}
-use borrow.Author.Tests.{lt-ltb, le-ltb, le-leb, eq-eqb}
+use borrow.Author.Tests.{lt-ltb, le-ltb}
 use lib.ListN.{length}
-use Rattle.laws.proofs.Bounded.{getD-tabulate}
 use Rattle.laws.proofs.Stands.{Stands, stands-first}
-use Rattle.laws.proofs.Grid.{getD-grid}
 use Rattle.flow.specs.Plan.{Plan, PlanOk, flowAt}
+use Rattle.bucket.proofs.Regulator.{full-fits}
 use Rattle.plan.specs.declared.Answer.{Answer}
 use Rattle.plan.specs.declared.Answer.the-variants.{Done, Refused}
 use Rattle.plan.specs.Layout.{planOf}
 use Rattle.plan.specs.Refusals.{planAnswer}
 use Rattle.plan.proofs.Ranges.{Bytes, plan-ok}
 use Rattle.place.specs.Place.{W, N}
-use Rattle.state.specs.State.{tallyAt, cellAt, freshTally, emptyCell, resetState}
+use Rattle.state.specs.State.{freshTally, resetState}
 use Rattle.state.specs.Words.{stateWords}
 use Rattle.state.specs.Read.{planIn}
 use Rattle.state.specs.Forms.{tallyFits, stateNumber}
@@ -25,28 +24,21 @@ use Rattle.state.specs.Outcome.{Outcome, unlessRefused, over}
 use Rattle.state.specs.Calls.{planSize, resetOn, freshOn}
 use Rattle.state.proofs.Read.{plan-read}
 use Rattle.state.proofs.Formed.{StateOk, registerOk, words-form}
+use Rattle.reset.proofs.Fresh.{fresh-tally, empty-cell}
 
 module _ (p : Plan) (ok : PlanOk p) where
-  fresh-tally : (f : ℕ) → f < length (p .flows) → tallyAt (resetState p) f ≡ freshTally ((flowAt p f) .burst)
-  fresh-tally f h = getD-tabulate (length (p .flows)) (λ f. freshTally ((flowAt p f) .burst)) f (freshTally 0) h
-
-  empty-cell : (x y : ℕ) → x < p .sx → y < p .sy → cellAt (resetState p) x y ≡ emptyCell
-  empty-cell x y h k = getD-grid (p .sx) (p .sy) (λ x y. emptyCell) emptyCell x y h k
-
   fresh-fits : (f : ℕ) → f < length (p .flows) → tallyFits 0 (flowAt p f) (freshTally ((flowAt p f) .burst)) ≡ true
   unfolding tallyFits
-  fresh-fits f h =
-      let σ = (flowAt p f) .burst in
-      rw (le-leb σ σ (omega arith), lt-ltb 0 _ (ok .flow-ok f h .period-least), eq-eqb σ σ refl)
+  fresh-fits f h = rw (full-fits ((flowAt p f) .burst) ((flowAt p f) .period) (ok .flow-ok f h .period-least))
 
   -- the numbers of a reset state fit
   pub reset-ok : StateOk (resetState p)
   reset-ok =
       record {
         plan-ok = ok;
-        tally-ok = λ f h. rw (fresh-tally f h) (fresh-fits f h);
-        west-ok = λ x y h k. ap (λ c. registerOk (resetState p) (W x y) (c .west)) (empty-cell x y h k);
-        north-ok = λ x y h k. ap (λ c. registerOk (resetState p) (N x y) (c .north)) (empty-cell x y h k);
+        tally-ok = λ f h. rw (fresh-tally p f h) (fresh-fits f h);
+        west-ok = λ x y h k. ap (λ c. registerOk (resetState p) (W x y) (c .west)) (empty-cell p x y h k);
+        north-ok = λ x y h k. ap (λ c. registerOk (resetState p) (N x y) (c .north)) (empty-cell p x y h k);
       }
 
 -- an accepted reset: the file was accepted, and the memory was long enough

@@ -1,27 +1,27 @@
--- The words of a reset state, part by part. Rests on specs/Fresh and the laws of a state's words.
-use mathlib.Core.List.{List, [], _∷_, _++_}
+-- Header, fresh flows and empty registers, written one behind the other, hold the reset state. Rests on the laws of a state's words.
+use mathlib.Core.List.{List, [], _∷_}
+use mathlib.Core.Logic.{inl}
 use mathlib.Core.Path.{_≡_, refl, sym, ap, _∙_}
-use Prim.Native.Nat.{ℕ, _+_, _*_, _≤_}
-use native.Mathlib.Nat.{zero-add}
+use Prim.Native.Nat.{ℕ, _*_, _≤_, _<_}
 use native.Mathlib.Omega.{arith}
-use lib.ListN.{length}
-use lib.Seq.{sets}
+use lib.ListN.{length, drop}
+use lib.Seq.{sets, length-sets}
 use Rattle.laws.specs.Count.{joinBelow}
+use Rattle.laws.specs.Grid.{cellIndex}
 use Rattle.laws.proofs.Bounded.{length-tabulate, getD-tabulate}
-use Rattle.laws.proofs.Stands.{length-join, join-same, sets-append}
-use Rattle.laws.proofs.Grid.{getD-grid, join-rows, rows}
+use Rattle.laws.proofs.Stands.{length-join, join-same, join-stands, stands-in, stands-sets, stands-other, drop-sets}
+use Rattle.laws.proofs.Grid.{getD-grid, cell-below}
 use Rattle.flow.specs.Plan.{Plan, flowAt, noFlow}
 use Rattle.plan.specs.declared.Answer.the-variants.{Done}
 use Rattle.plan.specs.Refusals.{trailerNumber, answerBy, recordsAnswer, planAnswer}
 use Rattle.plan.proofs.Refusals.{or-else-done, answer-done}
 use Rattle.plan.specs.Layout.{trailerOf, flowFrom, recordAt, planOf}
-use Rattle.state.specs.Layout.{headerSize, flowSize, flowPlace, stateSize}
+use Rattle.state.specs.Layout.{headerSize, flowSize, routerSize, flowPlace, stateSize}
 use Rattle.state.specs.State.{tallyAt, cellAt, freshTally, emptyCell, resetState}
-use Rattle.state.specs.Words.{headerWords, flowWords, cellWords, stateWords}
+use Rattle.state.specs.Words.{headerWords, cellWords, stateWords}
 use Rattle.state.specs.Outcome.{over}
 use Rattle.state.specs.Calls.{planSize}
-use Rattle.state.proofs.Words.{length-words}
-use Rattle.state.proofs.Over.{over-sets}
+use Rattle.state.proofs.Holds.{Front, registers-written, hold-same, hold-over}
 use Rattle.reset.specs.Fresh.{freshWords}
 
 module _ (p : Plan) where
@@ -31,33 +31,43 @@ module _ (p : Plan) where
   abbrev registersEmpty : List ℕ
   registersEmpty = joinBelow (p .sx * p .sy) (λ i. cellWords emptyCell)
 
-  reset-flows : joinBelow (length (p .flows)) (λ f. flowWords (flowAt p f) (tallyAt (resetState p) f)) ≡ flowsFresh
-  reset-flows =
-      join-same (length (p .flows)) _ _
-      (λ f h. ap (flowWords (flowAt p f)) (getD-tabulate (length (p .flows)) (λ f. freshTally ((flowAt p f) .burst)) f (freshTally 0) h))
+  pub fresh-tally : (f : ℕ) → f < length (p .flows) → tallyAt (resetState p) f ≡ freshTally ((flowAt p f) .burst)
+  fresh-tally f h = getD-tabulate (length (p .flows)) (λ f. freshTally ((flowAt p f) .burst)) f (freshTally 0) h
 
-  reset-cells : rows (p .sx) (p .sy) (λ x y. cellWords (cellAt (resetState p) x y)) ≡ registersEmpty
-  reset-cells =
-      join-same (p .sy) _ _ (λ y k. join-same (p .sx) _ _ (λ x h. ap cellWords (getD-grid (p .sx) (p .sy) (λ x y. emptyCell) emptyCell x y h k)))
-      ∙ sym (join-rows (p .sx) (p .sy) (λ i. cellWords emptyCell))
+  pub empty-cell : (x y : ℕ) → x < p .sx → y < p .sy → cellAt (resetState p) x y ≡ emptyCell
+  empty-cell x y h k = getD-grid (p .sx) (p .sy) (λ x y. emptyCell) emptyCell x y h k
 
-  pub reset-words : stateWords (resetState p) ≡ headerWords p 0 ++ flowsFresh ++ registersEmpty
-  unfolding stateWords
-  reset-words = rw (reset-flows, reset-cells)
+  module _ (w : List ℕ) (room : planSize p ≤ length w) where
+    abbrev headed : List ℕ
+    headed = sets w 0 (headerWords p 0)
 
-  -- the three runs of stores leave the reset state's words, and what lies past them
-  pub reset-sets : (w : List ℕ) → planSize p ≤ length w
-      → sets (sets (sets w 0 (headerWords p 0)) headerSize flowsFresh) (flowPlace (length (p .flows))) registersEmpty
-      ≡ over (stateWords (resetState p)) w
-  reset-sets w h =
-      let H = headerWords p 0 in
-      let front : length (H ++ flowsFresh) ≡ flowPlace (length (p .flows)) =
-      omega (arith, length-join flowSize (length (p .flows)) (λ f. freshWords (flowAt p f)) (λ f h. refl))
-      in
-      ap (λ l. sets l (flowPlace (length (p .flows))) registersEmpty) (sets-append w 0 H flowsFresh)
-      ∙ rw (zero-add, front) at (sets-append w 0 (H ++ flowsFresh) registersEmpty)
-      ∙ ap (sets w 0) (sym reset-words)
-      ∙ over-sets (stateWords (resetState p)) w (omega (arith, length-words (resetState p)))
+    abbrev flowed : List ℕ
+    flowed = sets headed headerSize flowsFresh
+
+    flows-length : length flowsFresh ≡ flowSize * length (p .flows)
+    flows-length = length-join flowSize (length (p .flows)) (λ f. freshWords (flowAt p f)) (λ f h. refl)
+
+    front : Front p 0 (λ f. freshTally ((flowAt p f) .burst)) (drop (planSize p) w) flowed
+    front =
+        let long = flows-length in
+        record {
+          room = rw (length-sets, length-sets) room;
+          head = stands-other 0 headed 0 (headerWords p 0) headerSize flowsFresh (stands-sets 0 w 0 (headerWords p 0) (omega arith)) (inl (omega arith));
+          flow = λ f h. stands-in 0 flowed flowsFresh (freshWords (flowAt p f)) headerSize (flowSize * f)
+              (stands-sets 0 headed headerSize flowsFresh (rw length-sets (omega arith)))
+              (join-stands 0 flowSize _ (λ f. freshWords (flowAt p f)) (λ f h. refl) f h);
+          past = drop-sets headed headerSize flowsFresh (planSize p) (omega arith) ∙ drop-sets w 0 (headerWords p 0) (planSize p) (omega arith);
+        }
+
+    -- the three runs of stores leave the reset state's words, and what lies past them
+    pub reset-sets : sets flowed (flowPlace (length (p .flows))) registersEmpty ≡ over (stateWords (resetState p)) w
+    reset-sets =
+        hold-over (resetState p) _ w
+        (hold-same p 0 _ (λ x y. emptyCell) _ _
+        (registers-written p 0 _ _ flowed front (λ x y. emptyCell) registersEmpty
+        (length-join routerSize _ (λ i. cellWords emptyCell) (λ i h. refl))
+        (λ x y h k. join-stands 0 routerSize _ (λ i. cellWords emptyCell) (λ i h. refl) (cellIndex (p .sx) x y) (cell-below (p .sx) (p .sy) x y h k)))
+        (tallyAt (resetState p)) (cellAt (resetState p)) fresh-tally empty-cell)
 
 -- the same by the numbers of a file's trailer and records
 module _ (file : List ℕ) where

@@ -10,14 +10,16 @@ ghost use Prim.Native.Nat.{_+_, _*_, _≤_};
 ghost use lib.ListN.{length};
 ghost use lib.Seq.{sets};
 ghost use Rattle.laws.specs.Count.{joinBelow};
-ghost use Rattle.plan.specs.Layout.{recordSize, flowFrom, planOf};
+ghost use Rattle.flow.specs.Plan.{mostFlows};
+ghost use Rattle.plan.specs.Layout.{recordSize, trailerOf, planOf};
 ghost use Rattle.plan.specs.Refusals.{trailerNumber};
-ghost use Rattle.state.specs.Layout.{headerSize, flowSize, routerSize, flowPlace};
-ghost use Rattle.state.specs.State.{emptyCell};
-ghost use Rattle.state.specs.Words.{cellWords};
-ghost use Rattle.state.specs.Outcome.{outcome};
+ghost use Rattle.plan.proofs.Accepted.{Framed};
+ghost use Rattle.state.specs.Layout.{headerSize, flowSize, routerSize, flowPlace, stateSize};
+ghost use Rattle.state.specs.State.{emptyCell, resetState};
+ghost use Rattle.state.specs.Words.{cellWords, stateWords};
+ghost use Rattle.state.specs.Outcome.{outcome, over};
 ghost use Rattle.state.specs.Calls.{freshOn, resetOn};
-ghost use Rattle.reset.specs.Fresh.{freshWords};
+ghost use Rattle.reset.specs.Fresh.{freshWords, freshFlows};
 
 // Writes Sx, Sy, F, clock 0 and the four zeros.
 fn put_header(w: &mut [u32], t: Trailer)
@@ -25,7 +27,7 @@ fn put_header(w: &mut [u32], t: Trailer)
     ensures { λ _. ⌜ now (w .exit) ≡ sets (now (w .entry)) 0 (t .sx ∷ t .sy ∷ t .count ∷ 0 ∷ 0 ∷ 0 ∷ 0 ∷ 0 ∷ []) ⌝ }
 {
     state::put_four(w, 0, t.sx, t.sy, t.count, 0);
-    state::put_four(w, 4, 0, 0, 0, 0);
+    state::put_four(w, state::ZEROS, 0, 0, 0, 0);
 }
 
 // Writes a flow with a full bucket, nothing entered and nothing waiting.
@@ -49,13 +51,13 @@ fn put_flow(w: &mut [u32], at: usize, f: Flow)
 // Writes the flows of the records from a start on.
 fn put_flows(file: &[u8], start: usize, count: usize, w: &mut [u32])
     requires { ⌜ start + recordSize * count ≤ length (now file) ⌝ }
-    requires { ⌜ flowPlace count ≤ length (now w) ⌝ }
-    ensures { λ _. ⌜ now (w .exit) ≡ sets (now (w .entry)) headerSize (joinBelow count (λ f. freshWords (flowFrom (now (file .entry)) (start + recordSize * f)))) ⌝ }
+    requires { ⌜ (count ≤ mostFlows) × (flowPlace count ≤ length (now w)) ⌝ }
+    ensures { λ _. ⌜ now (w .exit) ≡ sets (now (w .entry)) headerSize (freshFlows (now (file .entry)) start count) ⌝ }
 {
     for f in 0..count {
         put_flow(
             w,
-            state::HEADER_SIZE + state::FLOW_SIZE * f,
+            state::flow_place(f),
             plan::flow_from(file, start + plan::RECORD_SIZE * f),
         );
     }
@@ -79,24 +81,31 @@ fn clear(w: &mut [u32], at: usize, routers: usize)
     }
 }
 
+// Writes the reset state of a file with trailer t.
+fn put_reset(file: &[u8], t: Trailer, w: &mut [u32])
+    requires { ⌜ (t ≡ trailerOf (now file)) × Framed t (length (now file)) ⌝ }
+    requires { ⌜ stateSize (t .count) (t .sx) (t .sy) ≤ length (now w) ⌝ }
+    ensures { λ _. ⌜ now (w .exit) ≡ over (stateWords (resetState (planOf (now (file .entry))))) (now (w .entry)) ⌝ }
+{
+    let count = t.count as usize;
+    put_header(w, t);
+    put_flows(file, t.start as usize, count, w);
+    clear(w, state::flow_place(count), (t.sx * t.sy) as usize);
+}
+
 // The reset of an accepted file.
 fn reset_accepted(file: &[u8], w: &mut [u32]) -> Answer
     requires { ⌜ trailerNumber (now file) ≡ 0 ⌝ }
     ensures { λ r. ⌜ outcome r (now (w .exit)) ≡ freshOn (planOf (now (file .entry))) (now (w .entry)) ⌝ }
 {
     let t = plan::trailer_of(file);
-    let count = t.count as usize;
-    let routers = (t.sx * t.sy) as usize;
-    let at = state::HEADER_SIZE + state::FLOW_SIZE * count;
-    if w.len() < at + state::ROUTER_SIZE * routers {
+    if w.len() < state::size(t.count as usize, t.sx, t.sy) {
         return Answer::Refused {
             number: 8,
             place: 0,
         };
     }
-    put_header(w, t);
-    put_flows(file, t.start as usize, count, w);
-    clear(w, at, routers);
+    put_reset(file, t, w);
     Answer::Done(0)
 }
 

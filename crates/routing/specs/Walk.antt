@@ -16,7 +16,7 @@ use Rattle.router.specs.Links.{reach}
 use Rattle.router.specs.Rule.{via}
 use Rattle.router.specs.Delivery.{Delivery}
 use Rattle.state.specs.declared.Register.{Register}
-use Rattle.state.specs.Layout.{registerSize, routerSize, flowPlace}
+use Rattle.state.specs.Layout.{registerSize, routerSize, mostRouters}
 use Rattle.state.specs.Words.{registerWords}
 use Rattle.state.specs.Read.{sxIn, syIn, countIn, clockIn, stateOf}
 use Rattle.state.proofs.Forms.{StateFacts}
@@ -26,7 +26,7 @@ use Rattle.routing.specs.declared.Grid.{Grid}
 
 -- the grid of a state's routers
 abbrev pub gridIn : (w : List ℕ) → Grid
-gridIn w = record { sx = sxIn w; sy = syIn w; registers = flowPlace (countIn w) }
+gridIn w = record { sx = sxIn w; sy = syIn w; flows = countIn w }
 
 -- its torus, as a plan without flows
 abbrev pub torusOf : Grid → Plan
@@ -88,5 +88,5 @@ pub record Walking (w : List ℕ) (g : Grid) (entrants : List ℕ) : Type 0 wher
 
 -- n more exits, after `count`, have their words in the delivery memory
 pub record ExitRoom (count n : ℕ) (delivery : List ℕ) : Type 0 where
-  pub few : count + n ≤ mostSize * mostSize
+  pub few : count + n ≤ mostRouters
   pub room : exitSize * (count + n) ≤ length delivery

@@ -22,12 +22,15 @@ ghost use Rattle.entry.specs.Entrants.{entrantIn, Entrants};
 ghost use Rattle.routing.specs.Sent.{clientSends, sentAt, isIdle};
 ghost use Rattle.routing.specs.Walk.{OnGrid, registersOf, registersIn, push, pushed, pushedRow, pushedAll, rowDelivers, AtRouter, Walking, ExitRoom};
 
-// The grid of a state's routers: columns, rows, and where the registers begin in the state's words.
+// The grid of a state's routers: columns, rows, and the flows in front of the registers.
 struct Grid {
     sx: u32,
     sy: u32,
-    registers: usize,
+    flows: usize,
 }
+
+// The words of an exit.
+pub const EXIT_SIZE: usize = 5;
 
 // What is sent by the two outputs of a router.
 struct Sent {
@@ -54,10 +57,10 @@ fn client_sends(state: &[u32], who: u32) -> Sent
     let packet = Register::Packet {
         flow: f,
         serial: tally.entered + 1,
-        entry: state[3],
+        entry: state[state::CLOCK],
         deflections: 0,
     };
-    let port = flow.port(state[0]);
+    let port = flow.port(state[state::SX]);
     match port {
         Port::East => Sent {
             east: packet,
@@ -94,7 +97,7 @@ fn sent_at(state: &[u32], x: u32, y: u32, entrants: &[u32]) -> Sent
     requires { ⌜ Entrants (stateOf (now state)) (countIn (now state)) (now entrants) ⌝ }
     ensures { λ r. ⌜ r ≡ sentAt (stateOf (now (state .entry))) x y ⌝ }
 {
-    let client = cycle::router_index(state[0], x, y);
+    let client = state::router_index(state[state::SX], x, y);
     router_sends(state, x, y, entrants[client])
 }
 
@@ -103,7 +106,7 @@ fn push_east(grid: Grid, x: u32, y: u32, east: Register, next: &mut [u32])
     requires { ⌜ (OnGrid grid x y) × ((flowOf east < mostFlows) × (registersOf grid ≤ length (now next))) ⌝ }
     ensures { λ _. ⌜ now (next .exit) ≡ push grid x y East east (now (next .entry)) ⌝ }
 {
-    let router = cycle::router_index(grid.sx, torus::next(grid.sx, x), y);
+    let router = state::router_index(grid.sx, torus::next(grid.sx, x), y);
     state::put_register(next, state::ROUTER_SIZE * router, east);
 }
 
@@ -112,7 +115,7 @@ fn push_south(grid: Grid, x: u32, y: u32, south: Register, next: &mut [u32])
     requires { ⌜ (OnGrid grid x y) × ((flowOf south < mostFlows) × (registersOf grid ≤ length (now next))) ⌝ }
     ensures { λ _. ⌜ now (next .exit) ≡ push grid x y South south (now (next .entry)) ⌝ }
 {
-    let router = cycle::router_index(grid.sx, x, torus::next(grid.sy, y));
+    let router = state::router_index(grid.sx, x, torus::next(grid.sy, y));
     state::put_register(
         next,
         state::ROUTER_SIZE * router + state::REGISTER_SIZE,
@@ -160,7 +163,7 @@ fn deliver(exits: bool, south: Register, clock: u32, delivery: &mut [u32], count
     ensures { λ _. ⌜ now (delivery .exit) ≡ sets (now (delivery .entry)) (exitSize * count) (wordsOf (leaving clock (cond exits south Empty))) ⌝ }
 {
     if exits {
-        put_exit(delivery, 5 * (count as usize), south, clock);
+        put_exit(delivery, EXIT_SIZE * (count as usize), south, clock);
         return count + 1;
     }
     count
@@ -172,11 +175,11 @@ fn is_idle(state: &[u32], grid: Grid, x: u32, y: u32, entrants: &[u32]) -> bool
     requires { ⌜ (x < sxIn (now state)) × (y < syIn (now state)) ⌝ }
     ensures { λ r. ⌜ r ≡ isIdle (stateOf (now (state .entry))) x y ⌝ }
 {
-    let router = cycle::router_index(grid.sx, x, y);
+    let router = state::router_index(grid.sx, x, y);
     if entrants[router] != 0 {
         return false;
     }
-    let cell = state::cell_in(state, grid.registers + state::ROUTER_SIZE * router);
+    let cell = state::cell_in(state, state::router_place(grid.flows, grid.sx, x, y));
     let west = cell.west;
     if !cycle::is_empty(west) {
         return false;
@@ -219,7 +222,7 @@ fn route(
     let exits = cycle::exits(state, x, y, south);
     push_east(grid, x, y, east, next);
     push_south(grid, x, y, unless_exits(exits, south), next);
-    deliver(exits, south, state[3], delivery, count)
+    deliver(exits, south, state[state::CLOCK], delivery, count)
 }
 
 // The routers of row y, after `count` exits.
@@ -262,12 +265,12 @@ pub fn route_all(state: &[u32], entrants: &[u32], next: &mut [u32], delivery: &m
     ensures { λ r. ⌜ r ≡ length (deliveries (stateOf (now (state .entry)))) ⌝ }
     ensures { λ _. ⌜ now (delivery .exit) ≡ sets (now (delivery .entry)) 0 (wordsOf (deliveries (stateOf (now (state .entry))))) ⌝ }
 {
-    let sy = state[1];
-    let flows = state[2] as usize;
+    let sy = state[state::SY];
+    let flows = state[state::FLOWS] as usize;
     let grid = Grid {
-        sx: state[0],
+        sx: state[state::SX],
         sy,
-        registers: state::HEADER_SIZE + state::FLOW_SIZE * flows,
+        flows,
     };
     let mut done = 0;
     for y in 0..sy {

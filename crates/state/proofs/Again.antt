@@ -1,6 +1,6 @@
--- Words that form a state are the words of the state that they have. Rests on Words, View and Forms.
-use mathlib.Core.List.{List, _++_}
-use mathlib.Core.Path.{_≡_, _∙_}
+-- Words that form a state hold the state that they have. Rests on Holds, View and Forms.
+use mathlib.Core.List.{List}
+use mathlib.Core.Path.{_≡_, refl}
 use Prim.Native.Nat.{ℕ, _+_, _-_, _≤_, _<_}
 use native.Mathlib.Nat.{add-zero}
 use native.Mathlib.Decide.{ℕ-discrete}
@@ -8,27 +8,27 @@ use native.Mathlib.Omega.{arith}
 use borrow.Author.Tests.{eq-eqb, ne-eqb}
 use lib.ListN.{length, getD, drop}
 use Rattle.laws.specs.Bounded.{tabulate}
-use Rattle.laws.proofs.Stands.{Stands, stands-entries, stands-append, stands-start}
-use Rattle.flow.specs.Plan.{flowAt}
+use Rattle.laws.proofs.Stands.{Stands, stands-entries, stands-append}
 use Rattle.place.specs.Place.{W, N}
 use Rattle.state.specs.declared.Register.the-variants.{Empty}
 use Rattle.state.specs.Layout.{headerSize, flowSize, registerSize, flowPlace, routerPlace}
-use Rattle.state.specs.State.{tallyAt, cellAt}
-use Rattle.state.specs.Words.{headerWords, flowWords, registerWords, cellWords, stateWords}
+use Rattle.state.specs.State.{cellAt}
+use Rattle.state.specs.Words.{headerWords, flowWords, registerWords, cellWords}
 use Rattle.state.specs.Read.{sxIn, syIn, countIn, clockIn, flowIn, tallyIn, registerIn, cellIn, routerIn, planIn, stateOf}
-use Rattle.state.specs.Forms.{sizeIn, stateNumber}
-use Rattle.state.proofs.Words.{length-register, length-words, words-stand, router-below}
-use Rattle.state.proofs.View.{view-plan, view-count, view-size, view-flow, view-tally, view-cell}
-use Rattle.state.proofs.Forms.{HeaderFacts, StateFacts, empty-facts, state-facts}
+use Rattle.state.specs.Calls.{planSize}
+use Rattle.state.proofs.Words.{length-register, router-below}
+use Rattle.state.proofs.Holds.{HoldsState}
+use Rattle.state.proofs.View.{view-count, view-size, view-flow, view-tally, view-cell}
+use Rattle.state.proofs.Forms.{HeaderFacts, StateFacts, empty-facts}
 
 module _ (w : List ℕ) where
   -- a flow's ten words are those of what is read from them
-  pub flow-again : (at : ℕ) → at + flowSize ≤ length w → Stands 0 w at (flowWords (flowIn w at) (tallyIn w at))
+  flow-again : (at : ℕ) → at + flowSize ≤ length w → Stands 0 w at (flowWords (flowIn w at) (tallyIn w at))
   unfolding tabulate
   flow-again at h = rw add-zero at (stands-entries 0 w at 10 h)
 
   -- a register's four words too, if it holds a packet or is four zeros
-  pub register-again : (at : ℕ) → at + registerSize ≤ length w
+  register-again : (at : ℕ) → at + registerSize ≤ length w
       → (registerIn w at ≡ Empty → (k : ℕ) → k < registerSize → getD w (at + k) 0 ≡ 0) → Stands 0 w at (registerWords (registerIn w at))
   unfolding tabulate
   register-again at h zeros =
@@ -51,20 +51,9 @@ module _ (w : List ℕ) where
       at (stands-entries 0 w 0 8 long))
 
   module _ (h : StateFacts w) where
-    first : Stands 0 w 0 (headerWords ((stateOf w) .plan) ((stateOf w) .clock))
-    unfolding stateOf
-    first = let long = h .long in header-again (h .header) (omega arith)
-
-    each : (f : ℕ) → f < length ((stateOf w) .plan .flows)
-        → Stands 0 w (flowPlace f) (flowWords (flowAt ((stateOf w) .plan) f) (tallyAt (stateOf w) f))
-    each f l =
-        let long = h .long in
-        let m : f < countIn w = rw (view-plan w, view-count w) at l in
-        rw (view-plan w, view-flow w f m, view-tally w f m) (flow-again (flowPlace f) (omega arith))
-
     -- both registers of a router
-    cell : (x y : ℕ) → x < sxIn w → y < syIn w → Stands 0 w (routerIn w x y) (cellWords (cellIn w (routerIn w x y)))
-    cell x y l m =
+    cell-again : (x y : ℕ) → x < sxIn w → y < syIn w → Stands 0 w (routerIn w x y) (cellWords (cellIn w (routerIn w x y)))
+    cell-again x y l m =
         let at = routerIn w x y in
         let room = router-below (countIn w) (sxIn w) (syIn w) x y l m in
         let long = h .long in
@@ -73,19 +62,22 @@ module _ (w : List ℕ) where
         (rw (length-register (registerIn w at))
         (register-again (at + registerSize) (omega arith) (empty-facts w (N x y) (at + registerSize) (h .north x y l m))))
 
-    routers : (x y : ℕ) → x < (stateOf w) .plan .sx → y < (stateOf w) .plan .sy
-        → Stands 0 w (routerPlace (length ((stateOf w) .plan .flows)) ((stateOf w) .plan .sx) x y) (cellWords (cellAt (stateOf w) x y))
+    pub state-again : HoldsState (stateOf w) (drop (planSize ((stateOf w) .plan)) w) w
     unfolding stateOf planIn
-    routers x y l m = rw (view-count w, view-cell w x y l m) (cell x y l m)
-
-  pub state-again : stateNumber w ≡ 0 → Stands 0 w 0 (stateWords (stateOf w))
-  state-again e =
-      let h = state-facts w e in
-      words-stand (stateOf w) w (rw (view-plan w, view-size w) (h .long)) (first h) (each h) (routers h)
-
-  pub length-again : length (stateWords (stateOf w)) ≡ sizeIn w
-  length-again = length-words (stateOf w) ∙ rw (view-plan w) (view-size w)
-
-  -- its inverse, with what lies past the size
-  pub words-again : stateNumber w ≡ 0 → w ≡ stateWords (stateOf w) ++ drop (sizeIn w) w
-  words-again e = rw (← length-again) (stands-start 0 w (stateWords (stateOf w)) (state-again e))
+    state-again =
+        let long = h .long in
+        record {
+          front = record {
+            room = rw (view-size w) (h .long);
+            head = header-again (h .header) (omega arith);
+            flow = λ f l.
+                let m : f < countIn w = rw (view-count w) at l in
+                rw (view-flow w f m, view-tally w f m) (flow-again (flowPlace f) (omega arith));
+            past = refl;
+          };
+          router = routers;
+        }
+      where
+        routers : (x y : ℕ) → x < planIn w .sx → y < planIn w .sy
+            → Stands 0 w (routerPlace (length (planIn w .flows)) (planIn w .sx) x y) (cellWords (cellAt (stateOf w) x y))
+        routers x y l m = rw (view-count w, view-cell w x y l m) (cell-again x y l m)

@@ -12,18 +12,18 @@ use Rattle.laws.proofs.Cases.{and-true}
 use Rattle.laws.proofs.Bounded.{all-intro}
 use Rattle.laws.proofs.Stands.{Stands}
 use Rattle.flow.specs.declared.Flow.{Flow}
-use Rattle.flow.specs.Plan.{FlowOk, PlanOk, flowAt}
+use Rattle.flow.specs.Plan.{FlowOk, PlanOk, flowAt, mostSize, mostFlows, mostPeriod, mostBurst}
 use Rattle.place.specs.Place.{Place, W, N}
 use Rattle.place.specs.InPlace.{inPlace}
 use Rattle.state.specs.declared.Register.{Register}
 use Rattle.state.specs.declared.Register.the-variants.{Empty, Packet}
 use Rattle.state.specs.Layout.{headerSize, registerSize, flowPlace, routerPlace}
 use Rattle.state.specs.State.{State, tallyAt, cellAt}
-use Rattle.state.specs.Words.{registerWords, cellWords, stateWords}
-use Rattle.state.specs.Read.{sxIn, syIn, countIn}
+use Rattle.state.specs.Words.{registerWords, stateWords}
+use Rattle.state.specs.Read.{sxIn, syIn, countIn, tallyIn}
 use Rattle.state.specs.Forms.{headerFits, numbersFit, tallyFits, flowFits, contentsFit, registerFits, cellFits, restFits, sizeIn, stateNumber}
-use Rattle.state.proofs.Words.{length-words, cell-stands}
-use Rattle.state.proofs.Read.{head, part, west-part, north-part, register-read, sx-read, sy-read, count-read, clock-read, flow-at-read, tally-at-read}
+use Rattle.state.proofs.Words.{length-words}
+use Rattle.state.proofs.Read.{held, west-part, north-part, register-read, sx-read, sy-read, count-read, clock-read, flow-at-read, tally-at-read}
 
 -- a packet's numbers fit: 01's conditions on a register, of a state
 abbrev pub registerOk : State → Place → Register → Bool
@@ -49,9 +49,9 @@ numbers-true sx sy f ok =
       lt-ltb _ _ (ok .xd-on),
       lt-ltb _ _ (ok .yd-on),
       le-leb 1 _ (ok .period-least),
-      le-leb _ 65535 (ok .period-most),
+      le-leb _ mostPeriod (ok .period-most),
       le-leb 1 _ (ok .burst-least),
-      le-leb _ 255 (ok .burst-most),
+      le-leb _ mostBurst (ok .burst-most),
     )
 
 module _ (s : State) (ok : StateOk s) (w : List ℕ) (h : Stands 0 w 0 (stateWords s)) where
@@ -59,7 +59,7 @@ module _ (s : State) (ok : StateOk s) (w : List ℕ) (h : Stands 0 w 0 (stateWor
   unfolding headerFits allBelow
   header-true =
       let p = ok .plan-ok in
-      let first = head s w h in
+      let first = held s w h .front .head in
       rw (
         sx-read s w h,
         sy-read s w h,
@@ -69,19 +69,28 @@ module _ (s : State) (ok : StateOk s) (w : List ℕ) (h : Stands 0 w 0 (stateWor
         first .same 6 (omega arith),
         first .same 7 (omega arith),
         le-leb 1 _ (p .sx-least),
-        le-leb _ 16 (p .sx-most),
+        le-leb _ mostSize (p .sx-most),
         le-leb 1 _ (p .sy-least),
-        le-leb _ 16 (p .sy-most),
+        le-leb _ mostSize (p .sy-most),
         le-leb 1 _ (p .flows-least),
-        le-leb _ 256 (p .flows-most),
+        le-leb _ mostFlows (p .flows-most),
       )
 
   flow-true : (f : ℕ) → f < length (s .plan .flows) → flowFits w f ≡ true
   unfolding flowFits
   flow-true f l =
-      rw (sx-read s w h, sy-read s w h, clock-read s w h, flow-at-read s w h f l, tally-at-read s w h f l, numbers-true _ _ _ (ok .plan-ok .flow-ok f l), ok .tally-ok f l)
+      rw (
+        sx-read s w h,
+        sy-read s w h,
+        clock-read s w h,
+        flow-at-read s w h f l,
+        tally-at-read s w h f l,
+        numbers-true _ _ _ (ok .plan-ok .flow-ok f l),
+        ok .tally-ok f l,
+      )
 
-  contents-true : (place : Place) (at : ℕ) (r : Register) → Stands 0 w at (registerWords r) → registerOk s place r ≡ true → contentsFit w place at r ≡ true
+  contents-true : (place : Place) (at : ℕ) (r : Register) → Stands 0 w at (registerWords r) → registerOk s place r ≡ true
+      → contentsFit w place at r ≡ true
   contents-true place at Empty t e =
       all-intro (λ k. eqb (getD w (at + k) 0) 0) registerSize (λ k l. eq-eqb _ 0 (t .same k l ∙ getD-replicate 4 k 0 0 l))
   contents-true place at (Packet flow serial entry deflections) t e =
@@ -89,10 +98,11 @@ module _ (s : State) (ok : StateOk s) (w : List ℕ) (h : Stands 0 w 0 (stateWor
       let serials = leb 1 serial && leb serial ((tallyAt s flow) .entered) in
       let parts = and-true (ltb flow F && serials) _ e in
       let l : flow < F = ltb-true flow F (and-true (ltb flow F) serials (parts .0) .0) in
-      let entered : getD w (flowPlace flow + 8) 0 ≡ (tallyAt s flow) .entered = ap (λ t. t .entered) (tally-at-read s w h flow l) in
+      let entered : (tallyIn w (flowPlace flow)) .entered ≡ (tallyAt s flow) .entered = ap (λ t. t .entered) (tally-at-read s w h flow l) in
       rw (count-read s w h, clock-read s w h, sx-read s w h, sy-read s w h, flow-at-read s w h flow l, entered) e
 
-  register-true : (place : Place) (at : ℕ) (r : Register) → Stands 0 w at (registerWords r) → registerOk s place r ≡ true → registerFits w place at ≡ true
+  register-true : (place : Place) (at : ℕ) (r : Register) → Stands 0 w at (registerWords r) → registerOk s place r ≡ true
+      → registerFits w place at ≡ true
   unfolding registerFits
   register-true place at r t e = ap (contentsFit w place at) (register-read w at r t) ∙ contents-true place at r t e
 
@@ -101,7 +111,7 @@ module _ (s : State) (ok : StateOk s) (w : List ℕ) (h : Stands 0 w 0 (stateWor
   cell-true x y l m =
       let c = cellAt s x y in
       let at = routerPlace (length (s .plan .flows)) (s .plan .sx) x y in
-      let t = part s w h at (cellWords c) (cell-stands s x y l m) in
+      let t = held s w h .router x y l m in
       rw (
         count-read s w h,
         sx-read s w h,

@@ -1,11 +1,11 @@
--- What was written is read back: the state that words have, by the parts that stand in them. Rests on Words and specs/Read.
+-- What was written is read back: the state that words have, by the parts that stand in them. Rests on Holds and specs/Read.
 use mathlib.Core.List.{List, _++_}
 use mathlib.Core.Path.{_≡_, refl, sym, ap, _∙_}
 use Prim.Native.Nat.{ℕ, _+_, _-_, _*_, _<_}
-use native.Mathlib.Nat.{add-zero, zero-add}
+use native.Mathlib.Nat.{add-zero}
 use native.Mathlib.Omega.{arith}
 use borrow.Author.Tests.{ne-eqb}
-use lib.ListN.{length, getD}
+use lib.ListN.{length, getD, drop}
 use Rattle.laws.specs.Bounded.{tabulate}
 use Rattle.laws.specs.Grid.{grid, cellIndex}
 use Rattle.laws.proofs.Bounded.{is-tabulate}
@@ -19,9 +19,11 @@ use Rattle.state.specs.declared.Tally.{Tally}
 use Rattle.state.specs.declared.Cell.{Cell}
 use Rattle.state.specs.Layout.{registerSize, flowPlace}
 use Rattle.state.specs.State.{State, tallyAt, cellAt, freshTally, emptyCell}
-use Rattle.state.specs.Words.{headerWords, flowWords, registerWords, cellWords, stateWords}
+use Rattle.state.specs.Words.{flowWords, registerWords, cellWords, stateWords}
 use Rattle.state.specs.Read.{sxIn, syIn, countIn, clockIn, flowIn, tallyIn, registerIn, cellIn, routerIn, planIn, stateOf}
-use Rattle.state.proofs.Words.{length-register, header-stands, flow-stands, cell-stands}
+use Rattle.state.specs.Calls.{planSize}
+use Rattle.state.proofs.Words.{length-register}
+use Rattle.state.proofs.Holds.{HoldsState, words-hold}
 
 module _ (w : List ℕ) (at : ℕ) where
   pub flow-read : (f : Flow) (t : Tally) → Stands 0 w at (flowWords f t) → flowIn w at ≡ f
@@ -51,7 +53,9 @@ module _ (w : List ℕ) (at : ℕ) where
 -- W and N of a cell
 module _ (w : List ℕ) (at : ℕ) (c : Cell) (s : Stands 0 w at (cellWords c)) where
   pub west-part : Stands 0 w at (registerWords (c .west))
-  west-part = rw add-zero at (stands-in 0 w (cellWords c) (registerWords (c .west)) at 0 s (stands-first 0 (registerWords (c .west)) (registerWords (c .north))))
+  west-part =
+      rw add-zero
+      at (stands-in 0 w (cellWords c) (registerWords (c .west)) at 0 s (stands-first 0 (registerWords (c .west)) (registerWords (c .north))))
 
   pub north-part : Stands 0 w (at + registerSize) (registerWords (c .north))
   north-part =
@@ -67,33 +71,29 @@ pub record Sized (s : State) : Type 0 where
   pub cells-all : length (s .cells) ≡ s .plan .sx * s .plan .sy
 
 module _ (s : State) (w : List ℕ) (h : Stands 0 w 0 (stateWords s)) where
-  -- part of the state's words, so of the memory
-  pub part : (at : ℕ) (b : List ℕ) → Stands 0 (stateWords s) at b → Stands 0 w at b
-  part at b p = rw zero-add at (stands-in 0 w (stateWords s) b 0 at h p)
-
-  pub head : Stands 0 w 0 (headerWords (s .plan) (s .clock))
-  head = part 0 _ (header-stands s)
+  pub held : HoldsState s (drop (planSize (s .plan)) w) w
+  held = words-hold s w h
 
   pub sx-read : sxIn w ≡ s .plan .sx
-  sx-read = head .same 0 (omega arith)
+  sx-read = held .front .head .same 0 (omega arith)
 
   pub sy-read : syIn w ≡ s .plan .sy
-  sy-read = head .same 1 (omega arith)
+  sy-read = held .front .head .same 1 (omega arith)
 
   pub count-read : countIn w ≡ length (s .plan .flows)
-  count-read = head .same 2 (omega arith)
+  count-read = held .front .head .same 2 (omega arith)
 
   pub clock-read : clockIn w ≡ s .clock
-  clock-read = head .same 3 (omega arith)
+  clock-read = held .front .head .same 3 (omega arith)
 
   pub flow-at-read : (f : ℕ) → f < length (s .plan .flows) → flowIn w (flowPlace f) ≡ flowAt (s .plan) f
-  flow-at-read f l = flow-read w (flowPlace f) (flowAt (s .plan) f) (tallyAt s f) (part _ _ (flow-stands s f l))
+  flow-at-read f l = flow-read w (flowPlace f) (flowAt (s .plan) f) (tallyAt s f) (held .front .flow f l)
 
   pub tally-at-read : (f : ℕ) → f < length (s .plan .flows) → tallyIn w (flowPlace f) ≡ tallyAt s f
-  tally-at-read f l = tally-read w (flowPlace f) (flowAt (s .plan) f) (tallyAt s f) (part _ _ (flow-stands s f l))
+  tally-at-read f l = tally-read w (flowPlace f) (flowAt (s .plan) f) (tallyAt s f) (held .front .flow f l)
 
   pub cell-at-read : (x y : ℕ) → x < s .plan .sx → y < s .plan .sy → cellIn w (routerIn w x y) ≡ cellAt s x y
-  cell-at-read x y l m = rw (count-read, sx-read) (cell-read w _ (cellAt s x y) (part _ _ (cell-stands s x y l m)))
+  cell-at-read x y l m = rw (count-read, sx-read) (cell-read w _ (cellAt s x y) (held .router x y l m))
 
   flows-read : tabulate (countIn w) (λ f. flowIn w (flowPlace f)) ≡ s .plan .flows
   flows-read =

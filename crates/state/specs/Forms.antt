@@ -1,8 +1,7 @@
 -- When words form a state, and what a call on a state refuses first: 8 and 9 (01, State memory; When a call says no).
-use mathlib.Core.Bool.{Bool, true, cond, not, _&&_}
+use mathlib.Core.Bool.{Bool, cond, not, _&&_}
 use mathlib.Core.List.{List}
-use mathlib.Core.Path.{_≡_}
-use Prim.Native.Nat.{ℕ, _+_, _-_, _≤_}
+use Prim.Native.Nat.{ℕ, _+_, _-_}
 use lib.Dec.{ltb, leb, eqb}
 use lib.ListN.{length, getD}
 use Rattle.laws.specs.Bounded.{allBelow}
@@ -15,7 +14,7 @@ use Rattle.flow.specs.Limits.{mostWaiting}
 use Rattle.place.specs.InPlace.{inPlace}
 use Rattle.state.specs.declared.Register.{Register}
 use Rattle.state.specs.declared.Register.the-variants.{Empty, Packet}
-use Rattle.state.specs.Layout.{headerSize, registerSize, flowPlace, stateSize}
+use Rattle.state.specs.Layout.{headerSize, zerosPlace, registerSize, flowPlace, stateSize}
 use Rattle.state.specs.declared.Tally.{Tally}
 use Rattle.state.specs.Read.{sxIn, syIn, countIn, clockIn, flowIn, tallyIn, registerIn, routerIn}
 
@@ -24,7 +23,7 @@ unfoldable pub headerFits : List ℕ → Bool
 headerFits w =
     sizeOk (sxIn w) && sizeOk (syIn w)
     && (leb 1 (countIn w) && leb (countIn w) mostFlows)
-    && allBelow 4 (λ k. eqb (getD w (4 + k) 0) 0)
+    && allBelow 4 (λ k. eqb (getD w (zerosPlace + k) 0) 0)
 
 -- plan numbers lie in their ranges and coordinates on the torus
 unfoldable pub numbersFit : (sx sy : ℕ) → Flow → Bool
@@ -44,6 +43,10 @@ flowFits w f =
     let at = flowPlace f in
     numbersFit (sxIn w) (syIn w) (flowIn w at) && tallyFits (clockIn w) (flowIn w at) (tallyIn w at)
 
+-- a packet of the flow at a place entered before the clock, and is in place
+abbrev pub isPlaced : List ℕ → Place → (at entry D : ℕ) → Bool
+isPlaced w place at entry D = ltb entry (clockIn w) && inPlace (sxIn w) (syIn w) (flowIn w at) place D (clockIn w - entry)
+
 -- an empty register is four zeros; a packet is of a flow below F, its serial is 1..entered, its entry is before the clock,
 -- and it is in place
 abbrev pub contentsFit : List ℕ → Place → (at : ℕ) → Register → Bool
@@ -51,8 +54,7 @@ contentsFit w place at Empty = allBelow registerSize (λ k. eqb (getD w (at + k)
 contentsFit w place at (Packet flow serial entry deflections) =
     ltb flow (countIn w)
     && (leb 1 serial && leb serial ((tallyIn w (flowPlace flow)) .entered))
-    && (ltb entry (clockIn w)
-    && inPlace (sxIn w) (syIn w) (flowIn w (flowPlace flow)) place deflections (clockIn w - entry))
+    && isPlaced w place (flowPlace flow) entry deflections
 
 -- the four words of a register
 unfoldable pub registerFits : List ℕ → Place → (at : ℕ) → Bool
@@ -73,12 +75,6 @@ restFits w =
 -- the size that the header asks for
 abbrev pub sizeIn : List ℕ → ℕ
 sizeIn w = stateSize (countIn w) (sxIn w) (syIn w)
-
--- the header and every flow fit, and the words are as many as the header asks for
-pub record FlowsFit (w : List ℕ) : Type 0 where
-  pub header : headerFits w ≡ true
-  pub long : sizeIn w ≤ length w
-  pub flows : allBelow (countIn w) (flowFits w) ≡ true
 
 -- 8 under eight words; 9 for the first eight words; 8 for the whole size; 9 for the rest; 0 for words that form a state
 unfoldable pub stateNumber : List ℕ → ℕ

@@ -1,10 +1,18 @@
 -- The layout of state memory: where its words stand, and its size (01, State memory).
 use Prim.Native.Nat.{ℕ, _+_, _*_}
 use Rattle.laws.specs.Grid.{cellIndex}
+use Rattle.flow.specs.Plan.{mostSize}
 
 -- Sx, Sy, F, clock, four zeros
 abbrev pub headerSize : ℕ
 headerSize = 8
+
+-- of these, where the clock stands, and where the four zeros begin
+abbrev pub clockPlace : ℕ
+clockPlace = 3
+
+abbrev pub zerosPlace : ℕ
+zerosPlace = 4
 
 -- ten per flow
 abbrev pub flowSize : ℕ
@@ -21,6 +29,10 @@ registerSize = 4
 -- a router has two link registers, W before N
 abbrev pub routerSize : ℕ
 routerSize = 2 * registerSize
+
+-- the routers of the largest torus
+abbrev pub mostRouters : ℕ
+mostRouters = mostSize * mostSize
 
 -- where the words of flow f stand
 abbrev pub flowPlace : ℕ → ℕ

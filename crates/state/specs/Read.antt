@@ -10,7 +10,7 @@ use Rattle.flow.specs.declared.Flow.{Flow}
 use Rattle.flow.specs.Plan.{Plan}
 use Rattle.state.specs.declared.Register.{Register}
 use Rattle.state.specs.declared.Register.the-variants.{Empty, Packet}
-use Rattle.state.specs.Layout.{flowPlace, routerPlace, registerSize}
+use Rattle.state.specs.Layout.{clockPlace, numberSize, registerSize, flowPlace, routerPlace}
 use Rattle.state.specs.declared.Tally.{Tally}
 use Rattle.state.specs.declared.Cell.{Cell}
 use Rattle.state.specs.State.{State}
@@ -26,7 +26,7 @@ abbrev pub countIn : List ℕ → ℕ
 countIn w = getD w 2 0
 
 abbrev pub clockIn : List ℕ → ℕ
-clockIn w = getD w 3 0
+clockIn w = getD w clockPlace 0
 
 -- a flow's six plan numbers at a place
 abbrev pub flowIn : List ℕ → ℕ → Flow
@@ -44,9 +44,9 @@ flowIn w at =
 abbrev pub tallyIn : List ℕ → ℕ → Tally
 tallyIn w at =
     record {
-      bucket = record { tokens = getD w (at + 6) 0; count = getD w (at + 7) 0 };
-      entered = getD w (at + 8) 0;
-      waiting = getD w (at + 9) 0;
+      bucket = record { tokens = getD w (at + numberSize) 0; count = getD w (at + (numberSize + 1)) 0 };
+      entered = getD w (at + (numberSize + 2)) 0;
+      waiting = getD w (at + (numberSize + 3)) 0;
     }
 
 -- empty if the first word is 0, otherwise the packet of flow + 1

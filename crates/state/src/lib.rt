@@ -4,16 +4,37 @@ use flow::Flow;
 ghost use mathlib.Core.Path.{_≡_};
 ghost use mathlib.Core.List.{[], _∷_};
 ghost use Prim.Native.Nat.{_+_, _≤_, _<_};
-ghost use lib.ListN.{length};
+ghost use lib.ListN.{length, set};
 ghost use lib.Seq.{sets};
-ghost use Rattle.state.specs.Layout.{flowSize, numberSize, registerSize, routerSize};
+ghost use Rattle.laws.specs.Grid.{cellIndex};
+ghost use Rattle.flow.specs.Plan.{mostSize, mostFlows};
+ghost use Rattle.state.specs.Layout.{headerSize, clockPlace, flowSize, numberSize, registerSize, routerSize, mostRouters};
+ghost use Rattle.state.specs.Layout.{flowPlace, routerPlace, stateSize};
 ghost use Rattle.state.specs.Words.{numberWords, tallyWords, registerWords, flowOf};
 ghost use Rattle.state.specs.Read.{flowIn, tallyIn, registerIn, cellIn};
 
 // The words in front of the flows: Sx, Sy, F, clock, four zeros.
 pub const HEADER_SIZE: usize = 8;
+// Of these, the places of Sx, Sy, F, the clock and the four zeros.
+pub const SX: usize = 0;
+
+pub const SY: usize = 1;
+
+pub const FLOWS: usize = 2;
+
+pub const CLOCK: usize = 3;
+
+pub const ZEROS: usize = 4;
 // The words of a flow.
-pub const FLOW_SIZE: usize = 10;
+const FLOW_SIZE: usize = 10;
+// Of these, the places of its tokens, count, entered and waiting, behind its plan numbers.
+const TOKENS: usize = 6;
+
+const COUNT: usize = 7;
+
+const ENTERED: usize = 8;
+
+const WAITING: usize = 9;
 // The words of a link register.
 pub const REGISTER_SIZE: usize = 4;
 // The words of a router: W before N.
@@ -49,6 +70,40 @@ pub struct Tally {
     pub waiting: u32,
 }
 
+// Where the words of flow f stand; behind those of the last flow, the registers.
+pub fn flow_place(f: usize) -> usize
+    requires { ⌜ f ≤ mostFlows ⌝ }
+    ensures { λ r. ⌜ r ≡ flowPlace f ⌝ }
+{
+    HEADER_SIZE + FLOW_SIZE * f
+}
+
+// Where the router in column x and row y stands among the routers.
+pub fn router_index(sx: u32, x: u32, y: u32) -> usize
+    requires { ⌜ (sx ≤ mostSize) × ((x < sx) × (y < mostSize)) ⌝ }
+    ensures { λ r. ⌜ (r ≡ cellIndex sx x y) × (r < mostRouters) ⌝ }
+{
+    (y * sx + x) as usize
+}
+
+// Where its registers stand, behind so many flows.
+pub fn router_place(flows: usize, sx: u32, x: u32, y: u32) -> usize
+    requires { ⌜ flows ≤ mostFlows ⌝ }
+    requires { ⌜ (sx ≤ mostSize) × ((x < sx) × (y < mostSize)) ⌝ }
+    ensures { λ r. ⌜ r ≡ routerPlace flows sx x y ⌝ }
+{
+    flow_place(flows) + ROUTER_SIZE * router_index(sx, x, y)
+}
+
+// The words of a state.
+pub fn size(flows: usize, sx: u32, sy: u32) -> usize
+    requires { ⌜ flows ≤ mostFlows ⌝ }
+    requires { ⌜ (sx ≤ mostSize) × (sy ≤ mostSize) ⌝ }
+    ensures { λ r. ⌜ r ≡ stateSize flows sx sy ⌝ }
+{
+    flow_place(flows) + ROUTER_SIZE * ((sx * sy) as usize)
+}
+
 // The six plan numbers of the flow at a place.
 pub fn flow_in(w: &[u32], at: usize) -> Flow
     requires { ⌜ at + flowSize ≤ length (now w) ⌝ }
@@ -70,14 +125,22 @@ pub fn tally_in(w: &[u32], at: usize) -> Tally
     ensures { λ r. ⌜ r ≡ tallyIn (now (w .entry)) at ⌝ }
 {
     let bucket = Bucket {
-        tokens: w[at + 6],
-        count: w[at + 7],
+        tokens: w[at + TOKENS],
+        count: w[at + COUNT],
     };
     Tally {
         bucket,
-        entered: w[at + 8],
-        waiting: w[at + 9],
+        entered: w[at + ENTERED],
+        waiting: w[at + WAITING],
     }
+}
+
+// How many packets of the flow at a place have entered.
+pub fn entered_in(w: &[u32], at: usize) -> u32
+    requires { ⌜ at + flowSize ≤ length (now w) ⌝ }
+    ensures { λ r. ⌜ r ≡ (tallyIn (now (w .entry)) at) .entered ⌝ }
+{
+    w[at + ENTERED]
 }
 
 // The register at a place.
@@ -150,5 +213,13 @@ pub fn put_tally(w: &mut [u32], at: usize, t: Tally)
     ensures { λ _. ⌜ now (w .exit) ≡ sets (now (w .entry)) (at + numberSize) (tallyWords t) ⌝ }
 {
     let b = t.bucket;
-    put_four(w, at + 6, b.tokens, b.count, t.entered, t.waiting);
+    put_four(w, at + TOKENS, b.tokens, b.count, t.entered, t.waiting);
+}
+
+// Writes the clock.
+pub fn put_clock(w: &mut [u32], clock: u32)
+    requires { ⌜ headerSize ≤ length (now w) ⌝ }
+    ensures { λ _. ⌜ now (w .exit) ≡ set (now (w .entry)) clockPlace clock ⌝ }
+{
+    w[CLOCK] = clock;
 }

@@ -17,10 +17,16 @@ byte n h = mod-eq-of-lt {n = n} {m = 256} h
 
 pub record-sets : (l : List ℕ) (at : ℕ) (f : Flow) → FlowOk mostSize mostSize f
     → sets (sets l at (f .xs % 256 ∷ f .ys % 256 ∷ f .xd % 256 ∷ f .yd % 256 ∷ []))
-    (at + 4) (f .period % 256 ∷ f .period / 256 % 256 ∷ f .burst % 256 ∷ 0 ∷ []) ≡ sets l at (recordBytes f)
+    (at + 4) (f .period % 256 ∷ f .period / 256 % 256 ∷ f .burst % 256 ∷ 0 % 256 ∷ []) ≡ sets l at (recordBytes f)
 unfolding recordBytes twoBytes
 record-sets l at f ok =
-    rw (byte (f .xs) (omega (arith, ok .xs-on)), byte (f .ys) (omega (arith, ok .ys-on)), byte (f .xd) (omega (arith, ok .xd-on)), byte (f .yd) (omega (arith, ok .yd-on)), byte (f .burst) (omega (arith, ok .burst-most)))
+    rw (
+      byte (f .xs) (omega (arith, ok .xs-on)),
+      byte (f .ys) (omega (arith, ok .ys-on)),
+      byte (f .xd) (omega (arith, ok .xd-on)),
+      byte (f .yd) (omega (arith, ok .yd-on)),
+      byte (f .burst) (omega (arith, ok .burst-most)),
+    )
     (sets-append l at (f .xs ∷ f .ys ∷ f .xd ∷ f .yd ∷ []) (f .period % 256 ∷ f .period / 256 % 256 ∷ f .burst ∷ 0 ∷ []))
 
 pub sizes-bytes : (count sx sy : ℕ) → sx ≤ mostSize → sy ≤ mostSize

@@ -39,7 +39,7 @@ row-fits-spec =
     μ-loop
     (λ c. search needs)
     (λ c. (omega arith, (omega arith, all-none _)))
-    (λ c κs. (c .before .before .before .before .pre .0, (omega arith, c .before .before .before .before .pre .1)))
+    (λ c κs. record { fit = c .before .before .before .before .pre .0; column = omega arith; row = c .before .before .before .before .pre .1 })
     returns
     (λ c. omega (arith, c .before .before .before .before .shared-slice-known2 .given 0))
     (λ c. omega arith)

@@ -22,14 +22,21 @@ abbrev μ-loop : tie.MeasureT-loop
 
 loop-again : tie.Need-loop-again Inv-loop μ-loop
 loop-again c =
-    let l = c .before .before .before .before .before .before .before .before .before .loop in
-    let a = c .before .before .before .before .before .before .before .before .before .before .before .args in
-    let kept = c .before .before .put-four2 .kept .0 ∙ c .before .before .before .before .before .before .put-four .kept .0 ∙ l .inv .1 .0 in
+    let north = c .before .before in
+    let west = north .before .before .before .before in
+    let turn = west .before .before .before in
+    let l = turn .loop in
+    let a = turn .before .before .args in
     let more =
     sets-append (l .w) (a .at + routerSize * l .i) (0 ∷ 0 ∷ 0 ∷ 0 ∷ []) (0 ∷ 0 ∷ 0 ∷ 0 ∷ [])
     ∙ sets-more routerSize (l .i) (λ i. cellWords emptyCell) (λ i. refl) (a .w .now) (l .w) (a .at) (l .inv .1 .1)
-    in
-    (omega arith, (kept, rw (c .before .before .put-four2 .ensures, c .before .before .before .before .before .before .put-four .ensures) more))
+    in (
+      omega arith,
+      (
+        north .put-four2 .kept .0 ∙ west .put-four .kept .0 ∙ l .inv .1 .0,
+        rw (north .put-four2 .ensures, west .put-four .ensures) more,
+      ),
+    )
 
 returns : tie.Need-returns Inv-loop μ-loop
 returns c =

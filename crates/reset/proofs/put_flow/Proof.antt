@@ -8,8 +8,9 @@ use Rattle.reset.proofs.put_flow.Tie as tie
 
 returns : tie.Need-returns
 returns c =
-    let a = c .before .before .before .before .before .before .before .before .before .args in
-    rw (c .before .before .put-tally .ensures, c .before .before .before .before .before .before .put-numbers .ensures)
+    let numbers = c .before .before .before .before .before .before in
+    let a = numbers .before .before .before .args in
+    rw (c .before .before .put-tally .ensures, numbers .put-numbers .ensures)
     (sets-append (a .w .now) (a .at) (numberWords (a .f)) (tallyWords (freshTally (a .f .burst))))
 
 pub put-flow-spec : {M : Type 1} → statement M

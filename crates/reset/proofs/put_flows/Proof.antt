@@ -21,12 +21,19 @@ abbrev μ-loop : tie.MeasureT-loop
 
 loop-again : tie.Need-loop-again Inv-loop μ-loop
 loop-again c =
-    let l = c .before .before .before .before .before .before .loop in
-    let a = c .before .before .before .before .before .before .before .before .before .args in
+    let put = c .before .before in
+    let turn = put .before .before .before .before .before in
+    let l = turn .loop in
+    let a = turn .before .before .before .args in
     let more =
     sets-more flowSize (l .f) (λ f. freshWords (flowFrom (a .file .now) (a .start + recordSize * f))) (λ i. refl) (a .w .now) (l .w) headerSize (l .inv .1 .1)
-    in
-    (omega arith, (c .before .before .put-flow .kept .0 ∙ l .inv .1 .0, rw (c .before .before .put-flow .ensures, c .before .before .before .flow-from .ensures) more))
+    in (
+      omega arith,
+      (
+        put .put-flow .kept .0 ∙ l .inv .1 .0,
+        rw (put .put-flow .ensures, put .before .flow-from .ensures, put .before .before .flow-place .ensures) more,
+      ),
+    )
 
 returns : tie.Need-returns Inv-loop μ-loop
 returns c =
@@ -40,12 +47,11 @@ put-flows-spec =
     Inv-loop
     μ-loop
     (λ c. (omega arith, (refl, refl)))
-    (λ c. omega arith)
-    (λ c. omega arith)
+    (λ c κs. omega arith)
     (λ c. omega arith)
     (λ c. omega arith)
     (λ c κs. omega arith)
-    (λ c κs. omega arith)
+    (λ c κs. rw (c .before .flow-place .ensures) (omega arith))
     (λ c. omega arith)
     (λ c. omega arith)
     loop-again

@@ -7,8 +7,9 @@ use Rattle.reset.proofs.put_header.Tie as tie
 
 returns : tie.Need-returns
 returns c =
-    let a = c .before .before .before .before .before .before .before .before .before .args in
-    rw (c .before .before .put-four2 .ensures, c .before .before .before .before .before .before .put-four .ensures)
+    let first = c .before .before .before .before .before .before in
+    let a = first .before .before .before .args in
+    rw (c .before .before .put-four2 .ensures, first .put-four .ensures)
     (sets-append (a .w .now) 0 (a .t .sx ∷ a .t .sy ∷ a .t .count ∷ 0 ∷ []) (0 ∷ 0 ∷ 0 ∷ 0 ∷ []))
 
 pub put-header-spec : {M : Type 1} → statement M

@@ -12,7 +12,9 @@ reset-accepted-requires c κs = done-number _ _ (sym (c .before .before .before 
 
 returns : tie.Need-returns
 unfolding resetOn unlessRefused
-returns c = rw (← (c .before .before .before .before .before .before .plan-answer .ensures), c .before .before .before .before .enum-told .given .1) (c .before .before .reset-accepted .ensures)
+returns c =
+    rw (← (c .before .before .before .before .before .before .plan-answer .ensures), c .before .before .before .before .enum-told .given .1)
+    (c .before .before .reset-accepted .ensures)
 
 returns-2 : tie.Need-returns-2
 unfolding resetOn unlessRefused

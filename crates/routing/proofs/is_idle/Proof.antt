@@ -1,7 +1,7 @@
 -- `is_idle`: the definition's own tests.
 use mathlib.Core.Bool.{true}
 use mathlib.Core.Path.{_≡_, refl, sym, ap, _∙_}
-use Prim.Native.Nat.{ℕ, zero, suc, _+_, _*_}
+use Prim.Native.Nat.{ℕ, zero, suc}
 use borrow.Author.Needs.{needs}
 use borrow.Author.Tests.{eq-eqb, ne-eqb}
 use native.Mathlib.Omega.{arith}
@@ -10,7 +10,6 @@ use lib.ListN.{getD}
 use Rattle.laws.specs.Grid.{cellIndex}
 use Rattle.laws.proofs.Cases.{told-not, told-not′}
 use Rattle.router.specs.Rule.{entrant}
-use Rattle.state.specs.Layout.{routerSize}
 use Rattle.state.specs.State.{cellAt}
 use Rattle.state.specs.Read.{sxIn, routerIn, stateOf}
 use Rattle.state.proofs.View.{view-cell}
@@ -35,7 +34,8 @@ router-index-requires c κs =
     rw (p .0 .grid) (omega arith)
 
 -- the router's place among all
-index : (c : tie.After-router-index) → let a = c .before .before .before .args in c .router-index .result ≡ cellIndex (sxIn (a .state .now)) (a .x) (a .y)
+index : (c : tie.After-router-index) → let a = c .before .before .before .args in
+    c .router-index .result ≡ cellIndex (sxIn (a .state .now)) (a .x) (a .y)
 index c = c .router-index .ensures .0 ∙ rw (c .before .before .before .pre .0 .grid)
 
 shared-slice-read-if1 : tie.Need-shared-slice-read-if1
@@ -51,22 +51,20 @@ found c =
     rw (index c) (ap isNone (sym (entrant-all _ (p .0 .facts) _ (p .0 .all-entrants) _ _ (p .1 .0) (p .1 .1))) ∙ nobody _)
 
 -- where its registers stand
-place : (c : tie.After-router-index) → let a = c .before .before .before .args in
-    a .grid .registers + routerSize * c .router-index .result ≡ routerIn (a .state .now) (a .x) (a .y)
-place c = rw (index c, c .before .before .before .pre .0 .grid)
+place : (c : tie.After-router-place) → let a = c .before .before .before .before .before .before .args in
+    c .router-place .result ≡ routerIn (a .state .now) (a .x) (a .y)
+place c = c .router-place .ensures ∙ rw (c .before .before .before .before .before .before .pre .0 .grid)
 
-add-cell-in : tie.Need-add-cell-in
-add-cell-in c =
-    let at = c .before .before .before in
-    let p = at .before .before .before .pre .0 in
-    let count = p .facts .header .count-most in
-    rw (p .grid) (omega (arith, at .router-index .ensures .1))
+router-place-requires : tie.Need-router-place-requires
+router-place-requires c κs =
+    let p = c .before .before .before .before .before .pre in
+    let sizes = p .0 .facts .header in
+    rw (p .0 .grid) (omega arith)
 
 cell-in-requires : tie.Need-cell-in-requires
 cell-in-requires c κs =
-    let at = c .before .before .before in
-    let p = at .before .before .before .pre in
-    rw (place at) (router-fits _ (p .0 .facts) _ _ (p .1 .0) (p .1 .1))
+    let p = c .before .before .before .before .before .before .pre in
+    rw (place c) (router-fits _ (p .0 .facts) _ _ (p .1 .0) (p .1 .1))
 
 -- its registers
 cell : (c : tie.After-cell-in) → let at = c .before .before .before .before in let a = at .before .before .before .args in
@@ -74,7 +72,7 @@ cell : (c : tie.After-cell-in) → let at = c .before .before .before .before in
 cell c =
     let at = c .before .before .before .before in
     let p = at .before .before .before .pre in
-    view-cell _ _ _ (p .1 .0) (p .1 .1) ∙ sym (c .cell-in .ensures ∙ rw (place at))
+    view-cell _ _ _ (p .1 .0) (p .1 .1) ∙ sym (c .cell-in .ensures ∙ rw (place (c .before)))
 
 returns : tie.Need-returns
 returns c = rw (found (c .before .before), ne-eqb _ _ (c .if1 .taken))
@@ -97,4 +95,4 @@ returns-3 c =
 pub is-idle-spec : {M : Type 1} → statement M
 is-idle-spec =
     tie.close (tie.spec router-index-requires (λ c. search needs) shared-slice-read-if1 returns
-    (λ c. search needs) add-cell-in cell-in-requires (λ c κs. search needs) returns-2 (λ c κs. search needs) returns-3)
+    router-place-requires cell-in-requires (λ c κs. search needs) returns-2 (λ c κs. search needs) returns-3)

@@ -48,6 +48,6 @@ returns c =
 
 pub route-all-spec : {M : Type 1} → statement M
 route-all-spec =
-    tie.close (tie.spec Inv-loop μ-loop (λ c. search needs) (λ c. search needs) (λ c. search needs) (λ c. search needs) (λ c. search needs)
-    (λ c. search needs) loop-holds route-row-requires (λ c. omega arith) (λ c. omega arith) loop-again
+    tie.close (tie.spec Inv-loop μ-loop (λ c. search needs) (λ c. search needs) (λ c. search needs) (λ c. search needs)
+    loop-holds route-row-requires (λ c. omega arith) (λ c. omega arith) loop-again
     (λ c. c .before .loop .inv .1 .next-long) (λ c. walked-long _ _ _ _ (c .before .loop .inv .1)) returns)

@@ -50,15 +50,19 @@ loop-again c =
     let walked = turn .before .loop .inv .1 in
     let grid = turn .before .before .before .before .before .before .pre .0 .grid in
     elim (c .if1 .came) [
-      | inl w ↦
-          let idle = sym (c .before .is-idle .ensures) ∙ w .0 .taken in
-          let next = w .5 ∙ w .2 .ensures ∙ idle-pushed _ _ grid _ _ idle _ in
-          let long = ap length (w .5) ∙ w .2 .kept .1 .1 .1 .0 in
-          (omega arith, walked-quiet _ _ _ _ _ _ _ _ walked _ _ _ next long (idle-delivers _ _ _ idle) (w .7) (w .6))
-      | inr w ↦
-          let sent = w .3 .ensures in
-          let long = ap length (w .8) ∙ w .3 .kept .1 .1 .1 .1 .1 .0 in
-          (omega arith, walked-more _ _ _ _ _ _ _ _ walked _ _ _ (w .8 ∙ sent .0) long (w .10 ∙ sent .1 .0) (w .9 ∙ sent .1 .1))
+      | inl w ↦ (
+        omega arith,
+        let idle = sym (c .before .is-idle .ensures) ∙ w .0 .taken in
+            let next = w .5 ∙ w .2 .ensures ∙ idle-pushed _ _ grid _ _ idle _ in
+            let long = ap length (w .5) ∙ w .2 .kept .1 .1 .1 .0 in
+            walked-quiet _ _ _ _ _ _ _ _ walked _ _ _ next long (idle-delivers _ _ _ idle) (w .7) (w .6),
+      )
+      | inr w ↦ (
+        omega arith,
+        let sent = w .3 .ensures in
+            let long = ap length (w .8) ∙ w .3 .kept .1 .1 .1 .1 .1 .0 in
+            walked-more _ _ _ _ _ _ _ _ walked _ _ _ (w .8 ∙ sent .0) long (w .10 ∙ sent .1 .0) (w .9 ∙ sent .1 .1),
+      )
     ]
 
 returns : tie.Need-returns Inv-loop μ-loop

@@ -3,6 +3,7 @@ use mathlib.Core.Path.{_≡_, sym, _∙_}
 use borrow.Author.Needs.{needs}
 use Rattle.state.specs.Forms.{stateNumber}
 use Rattle.state.specs.Calls.{writeOn}
+use Rattle.state.proofs.Forms.{state-facts}
 use Rattle.state.proofs.Over.{unless-passes, unless-refuses}
 use Rattle.writing.proofs.write.Statement.{statement}
 use Rattle.writing.proofs.write.Tie as tie
@@ -20,4 +21,4 @@ unfolding writeOn
 returns-2 c = c .before .before .write-accepted .ensures ∙ unless-passes _ _ _ (zero (c .before .before .before .before))
 
 pub write-spec : {M : Type 1} → statement M
-write-spec = tie.close (tie.spec (λ c κs. search needs) returns (λ c κs. zero (c .before)) (λ c. search needs) returns-2)
+write-spec = tie.close (tie.spec (λ c κs. search needs) returns (λ c κs. state-facts _ (zero (c .before))) (λ c. search needs) returns-2)

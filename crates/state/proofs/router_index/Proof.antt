@@ -2,8 +2,8 @@
 use Prim.Native.Nat.{ℕ, _*_, _≤_, _<_}
 use native.Mathlib.Nat.{mul-le-mul}
 use native.Mathlib.Omega.{arith}
-use Rattle.cycle.proofs.router_index.Statement.{statement}
-use Rattle.cycle.proofs.router_index.Tie as tie
+use Rattle.state.proofs.router_index.Statement.{statement}
+use Rattle.state.proofs.router_index.Tie as tie
 
 -- whole rows before row y
 rows : (sx y : ℕ) → sx ≤ 16 → y < 16 → y * sx ≤ 240
