@@ -1,12 +1,17 @@
 -- `offer`: a refusal by the state's number or the offer's, or one more waiting.
-use mathlib.Core.Path.{_≡_, sym, _∙_}
+use mathlib.Core.Path.{_≡_, refl, sym, _∙_}
+use mathlib.Core.Bool.{cond}
 use mathlib.Core.List.{List}
 use Prim.Native.Nat.{ℕ, _<_}
 use borrow.Author.Needs.{needs}
 use borrow.Author.Tests.{leb-false}
+use lib.Dec.{leb}
+use lib.ListN.{length}
 use Rattle.laws.proofs.Cases.{passed}
-use Rattle.flow.specs.Limits.{offerNumber}
+use Rattle.flow.specs.Limits.{mostWaiting, offerNumber}
+use Rattle.state.specs.State.{tallyAt}
 use Rattle.state.specs.Read.{countIn, stateOf}
+use Rattle.state.specs.Forms.{stateNumber}
 use Rattle.state.proofs.View.{view-plan, view-count}
 use Rattle.state.proofs.Forms.{state-facts}
 use Rattle.state.proofs.Over.{unless-passes, unless-refuses}
@@ -17,36 +22,44 @@ use Rattle.engine.proofs.offer.Tie as tie
 -- the flow is one of the plan where 12 isn't given
 named : (w : List ℕ) (f waiting : ℕ) → offerNumber ((stateOf w) .plan) f waiting ≡ 0 → f < countIn w
 unfolding offerNumber
-named w f waiting e = rw (view-plan w, view-count w) at (leb-false _ _ (passed _ 11 _ e .0))
+named w f waiting e =
+    let flows = length ((stateOf w) .plan .flows) in
+    let below = leb-false flows f (passed (leb flows f) 11 (cond (leb mostWaiting waiting) 13 0) e .0) in
+    rw (view-plan w, view-count w) at below
 
 returns : tie.Need-returns
 unfolding offerOn
 returns c = rw (← (c .before .state-number .ensures)) (unless-refuses _ _ _ (c .if1 .taken))
 
+-- the words form a state
+formed : (c : tie.Else1) → stateNumber (c .before .before .before .before .args .state .now) ≡ 0
+formed c = sym (c .before .state-number .ensures) ∙ c .if1 .left
+
 offer-number-requires : tie.Need-offer-number-requires
-offer-number-requires c κs = state-facts _ (sym (c .before .before .state-number .ensures) ∙ c .before .if1 .left)
+offer-number-requires c κs = state-facts _ (formed (c .before))
+
+-- the number that the definition gives
+number : (c : tie.After-offer-number) → let a = c .before .before .before .before .before .before .args in
+    c .offer-number .result ≡ offerNumber ((stateOf (a .state .now)) .plan) (a .flow) ((tallyAt (stateOf (a .state .now)) (a .flow)) .waiting)
+number c = c .offer-number .ensures
 
 returns-2 : tie.Need-returns-2
 unfolding offerOn
 returns-2 c =
-    rw (← (c .before .before .before .before .state-number .ensures), ← (c .before .offer-number .ensures))
-    (unless-refuses _ _ _ (c .if2 .taken) ∙ unless-passes _ _ _ (c .before .before .before .if1 .left))
+    rw (formed (c .before .before .before), ← (number (c .before))) (unless-refuses _ _ _ (c .if2 .taken) ∙ unless-passes _ _ _ refl)
 
 wait-more-requires : tie.Need-wait-more-requires
-wait-more-requires c κs = (
-  sym (c .before .before .before .before .before .state-number .ensures) ∙ c .before .before .before .before .if1 .left,
-  named _ _ _ (sym (c .before .before .offer-number .ensures) ∙ c .before .if2 .left),
-)
+wait-more-requires c κs = (formed (c .before .before .before .before), named _ _ _ (sym (number (c .before .before)) ∙ c .before .if2 .left))
 
 returns-3 : tie.Need-returns-3
 unfolding offerOn
 returns-3 c =
-    let at = c .before .before in
-    let number = at .before .before .before in
-    let first = number .before .before .before in
-    rw (at .wait-more .ensures, ← (first .state-number .ensures), ← (number .offer-number .ensures))
-    (unless-passes _ _ _ (at .before .before .if2 .left) ∙ unless-passes _ _ _ (number .before .before .if1 .left))
+    let more = c .before .before in
+    let free = more .before .before in
+    rw (more .wait-more .ensures, formed (free .before .before .before), ← (number (free .before)))
+    (unless-passes _ _ _ (free .if2 .left) ∙ unless-passes _ _ _ refl)
 
 pub offer-spec : {M : Type 1} → statement M
 offer-spec =
-    tie.close (tie.spec (λ c κs. search needs) (λ c. search needs) returns offer-number-requires (λ c. search needs) returns-2 wait-more-requires (λ c. search needs) returns-3)
+    tie.close (tie.spec (λ c κs. search needs) (λ c. search needs) returns offer-number-requires (λ c. search needs) returns-2
+    wait-more-requires (λ c. search needs) returns-3)

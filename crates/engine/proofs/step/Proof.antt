@@ -1,5 +1,5 @@
 -- `step`: a refusal by the state's number or the step's, or one cycle.
-use mathlib.Core.Path.{_≡_, sym, _∙_}
+use mathlib.Core.Path.{_≡_, refl, sym, _∙_}
 use mathlib.Core.Bool.{cond}
 use mathlib.Core.List.{List}
 use mathlib.Core.Logic.{_≢_}
@@ -12,6 +12,7 @@ use lib.ListN.{length}
 use Rattle.laws.proofs.Cases.{passed}
 use Rattle.flow.specs.Limits.{lastClock, stepNumber}
 use Rattle.state.specs.Read.{sxIn, syIn, clockIn, planIn, stateOf}
+use Rattle.state.specs.Forms.{stateNumber}
 use Rattle.state.proofs.Forms.{state-facts}
 use Rattle.state.proofs.Over.{unless-passes, unless-refuses}
 use Rattle.cycle.specs.Calls.{stepOn}
@@ -31,31 +32,45 @@ returns : tie.Need-returns
 unfolding stepOn
 returns c = rw (← (c .before .state-number .ensures)) (unless-refuses _ _ _ (c .if1 .taken))
 
+-- the words form a state
+formed : (c : tie.Else1) → stateNumber (c .before .before .before .before .before .args .state .now) ≡ 0
+formed c = sym (c .before .state-number .ensures) ∙ c .if1 .left
+
 step-number-requires : tie.Need-step-number-requires
-step-number-requires c κs = state-facts _ (sym (c .before .before .before .state-number .ensures) ∙ c .before .before .if1 .left)
+step-number-requires c κs = state-facts _ (formed (c .before .before))
+
+-- the number that the definition gives
+number : (c : tie.After-step-number) → let first = c .before .before .before in
+    let a = first .before .before .before .before .before .args in
+    c .step-number .result ≡ stepNumber ((stateOf (a .state .now)) .plan) (length (a .delivery .now)) ((stateOf (a .state .now)) .clock)
+number c = c .step-number .ensures
 
 returns-2 : tie.Need-returns-2
 unfolding stepOn
 returns-2 c =
-    rw (← (c .before .before .before .before .before .state-number .ensures), ← (c .before .step-number .ensures))
-    (unless-refuses _ _ _ (c .if2 .taken) ∙ unless-passes _ _ _ (c .before .before .before .before .if1 .left))
+    rw (formed (c .before .before .before .before), ← (number (c .before))) (unless-refuses _ _ _ (c .if2 .taken) ∙ unless-passes _ _ _ refl)
+
+-- the step can run
+free : (c : tie.Else2) → let first = c .before .before .before .before in
+    let a = first .before .before .before .before .before .args in
+    (clockIn (a .state .now) < 4294967295) × (5 * (sxIn (a .state .now) * syIn (a .state .now)) ≤ length (a .delivery .now))
+free c =
+    let first = c .before .before .before .before in
+    let known = first .before .before .before .before in
+    let a = known .before .args in
+    room (a .state .now) (a .delivery .now) (sym (number (c .before)) ∙ c .if2 .left) (known .slice-known .given 3 .fits)
 
 advance-requires : tie.Need-advance-requires
-advance-requires c κs =
-    let start = c .before .before .before .before .before .before .before .before .before .before .before in (
-      sym (c .before .before .before .before .before .before .before .state-number .ensures) ∙ c .before .before .before .before .before .before .if1 .left,
-      room (start .args .state .now) (start .args .delivery .now) (sym (c .before .before .before .step-number .ensures) ∙ c .before .before .if2 .left)
-          (c .before .before .before .before .before .before .before .before .before .before .slice-known .given 3 .fits),
-    )
+advance-requires c κs = (formed (c .before .before .before .before .before .before), free (c .before .before))
 
 returns-3 : tie.Need-returns-3
 unfolding stepOn
 returns-3 c =
     let run = c .before .before .before .before in
-    let number = run .before .before .before .before in
-    let first = number .before .before .before .before in
-    rw (run .advance .ensures .0, run .advance .ensures .1 .0, run .advance .ensures .1 .1, ← (first .state-number .ensures), ← (number .step-number .ensures))
-    (unless-passes _ _ _ (run .before .before .before .if2 .left) ∙ unless-passes _ _ _ (number .before .before .before .if1 .left))
+    let free = run .before .before .before in
+    let ran = run .advance .ensures in
+    rw (ran .0, ran .1 .0, ran .1 .1, formed (free .before .before .before .before), ← (number (free .before)))
+    (unless-passes _ _ _ (free .if2 .left) ∙ unless-passes _ _ _ refl)
 
 pub step-spec : {M : Type 1} → statement M
 step-spec =
