@@ -1,4 +1,2 @@
 -- The laws of the engine.
-pub mod Stored
-pub mod Offered
 pub mod Next

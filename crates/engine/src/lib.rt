@@ -10,11 +10,11 @@ ghost use Rattle.state.specs.Read.{sxIn, syIn, countIn, clockIn, stateOf};
 ghost use Rattle.state.specs.Forms.{stateNumber};
 ghost use Rattle.state.specs.Outcome.{outcome, lent, over};
 ghost use Rattle.state.specs.State.{tallyAt};
-ghost use Rattle.flow.specs.Limits.{offerNumber, stepNumber};
+ghost use Rattle.flow.specs.Limits.{lastClock, exitSize, offerNumber, stepNumber};
 ghost use Rattle.state.proofs.Forms.{StateFacts};
 ghost use Rattle.entry.specs.Entrants.{Entrants};
 ghost use Rattle.routing.specs.Walk.{registersIn, pushedAll};
-ghost use Rattle.engine.specs.Next.{nextWords};
+ghost use Rattle.engine.specs.Next.{Room, nextWords};
 ghost use Rattle.cycle.specs.Step.{exits, stepState, stepDelivers};
 ghost use Rattle.cycle.specs.Calls.{exitCount, offerOn, stepOn};
 ghost use Rattle.cycle.specs.Offer.{offerState};
@@ -37,10 +37,8 @@ fn find_next(
     delivery: &mut [u32],
 ) -> u32
     requires { ⌜ StateFacts (now state) ⌝ }
-    requires { ⌜ clockIn (now state) < 4294967295 ⌝ }
+    requires { ⌜ Room (now state) (now registers) (now delivery) ⌝ }
     requires { ⌜ Entrants (stateOf (now state)) 0 (now entrants) ⌝ }
-    requires { ⌜ registersIn (now state) ≤ length (now registers) ⌝ }
-    requires { ⌜ 5 * (sxIn (now state) * syIn (now state)) ≤ length (now delivery) ⌝ }
     ensures { λ _. ⌜ Entrants (stateOf (now (state .entry))) (countIn (now (state .entry))) (now (entrants .exit)) ⌝ }
     ensures { λ _. ⌜ now (registers .exit) ≡ pushedAll (now (state .entry)) (now (registers .entry)) ⌝ }
     ensures { λ r. ⌜ r ≡ exitCount (stateOf (now (state .entry))) ⌝ }
@@ -53,20 +51,20 @@ fn find_next(
 // Writes the next tallies, clock and registers.
 fn store_next(state: &mut [u32], entrants: &[u32], registers: &[u32])
     requires { ⌜ StateFacts (now state) ⌝ }
-    requires { ⌜ clockIn (now state) < 4294967295 ⌝ }
+    requires { ⌜ clockIn (now state) < lastClock ⌝ }
     requires { ⌜ Entrants (stateOf (now state)) (countIn (now state)) (now entrants) ⌝ }
     requires { ⌜ registersIn (now state) ≤ length (now registers) ⌝ }
     ensures { λ _. ⌜ now (state .exit) ≡ nextWords (now (state .entry)) (now (registers .entry)) ⌝ }
 {
-    let routers = (state[0] * state[1]) as usize;
-    let flows = state[2] as usize;
-    let clock = state[3];
+    let routers = (state[state::SX] * state[state::SY]) as usize;
+    let flows = state[state::FLOWS] as usize;
+    let clock = state[state::CLOCK];
     entry::tally_flows(state, entrants);
-    state[3] = clock + 1;
+    state::put_clock(state, clock + 1);
     copy(
         registers,
         state,
-        state::HEADER_SIZE + state::FLOW_SIZE * flows,
+        state::flow_place(flows),
         state::ROUTER_SIZE * routers,
     );
 }
@@ -78,11 +76,9 @@ fn advance_in(
     registers: &mut [u32],
     delivery: &mut [u32],
 ) -> u32
-    requires { ⌜ stateNumber (now state) ≡ 0 ⌝ }
-    requires { ⌜ clockIn (now state) < 4294967295 ⌝ }
+    requires { ⌜ StateFacts (now state) ⌝ }
+    requires { ⌜ Room (now state) (now registers) (now delivery) ⌝ }
     requires { ⌜ Entrants (stateOf (now state)) 0 (now entrants) ⌝ }
-    requires { ⌜ registersIn (now state) ≤ length (now registers) ⌝ }
-    requires { ⌜ 5 * (sxIn (now state) * syIn (now state)) ≤ length (now delivery) ⌝ }
     ensures { λ _. ⌜ now (state .exit) ≡ over (stateWords (stepState (stateOf (now (state .entry))))) (now (state .entry)) ⌝ }
     ensures { λ r. ⌜ r ≡ exitCount (stateOf (now (state .entry))) ⌝ }
     ensures { λ _. ⌜ now (delivery .exit) ≡ over (stepDelivers (stateOf (now (state .entry)))) (now (delivery .entry)) ⌝ }
@@ -95,13 +91,13 @@ fn advance_in(
 // One cycle: the state's words, the exits' words, and their count. A small torus gets little room.
 fn advance(state: &mut [u32], delivery: &mut [u32]) -> u32
     requires { ⌜ stateNumber (now state) ≡ 0 ⌝ }
-    requires { ⌜ clockIn (now state) < 4294967295 ⌝ }
-    requires { ⌜ 5 * (sxIn (now state) * syIn (now state)) ≤ length (now delivery) ⌝ }
+    requires { ⌜ clockIn (now state) < lastClock ⌝ }
+    requires { ⌜ exitSize * (sxIn (now state) * syIn (now state)) ≤ length (now delivery) ⌝ }
     ensures { λ _. ⌜ now (state .exit) ≡ over (stateWords (stepState (stateOf (now (state .entry))))) (now (state .entry)) ⌝ }
     ensures { λ r. ⌜ r ≡ exitCount (stateOf (now (state .entry))) ⌝ }
     ensures { λ _. ⌜ now (delivery .exit) ≡ over (stepDelivers (stateOf (now (state .entry)))) (now (delivery .entry)) ⌝ }
 {
-    let routers = state[0] * state[1];
+    let routers = state[state::SX] * state[state::SY];
     if routers <= 16 {
         let mut entrants = [0u32; 16];
         let mut registers = [0u32; state::ROUTER_SIZE * 16];
@@ -130,11 +126,7 @@ fn wait_more(state: &mut [u32], f: u32)
         entered: t.entered,
         waiting: t.waiting + 1,
     };
-    state::put_tally(
-        state,
-        state::HEADER_SIZE + state::FLOW_SIZE * (f as usize),
-        more,
-    );
+    state::put_tally(state, state::flow_place(f as usize), more);
 }
 
 // The refusal of an offer after the state's own, or 0.

@@ -4,6 +4,7 @@ use Prim.Native.Nat.{ℕ, _*_, _≤_}
 use borrow.Author.Needs.{needs}
 use native.Mathlib.Omega.{arith}
 use lib.ListN.{replicate, getD-replicate, length-replicate}
+use Rattle.state.specs.Layout.{mostRouters}
 use Rattle.state.specs.Read.{sxIn, syIn, planIn, stateOf}
 use Rattle.state.proofs.Forms.{state-facts}
 use Rattle.entry.specs.Entrants.{Entrants}
@@ -17,30 +18,42 @@ none : (w : List ℕ) (n : ℕ) → sxIn w * syIn w ≤ n → Entrants (stateOf 
 unfolding stateOf planIn
 none w n h = entrants-none (stateOf w) (replicate n 0) (rw length-replicate h) (λ i k. getD-replicate n i 0 0 (omega arith))
 
+slice-read-routers : tie.Need-slice-read-routers
+slice-read-routers c = let long = state-facts _ (c .before .before .before .pre .0) .long in omega arith
+
+slice-read-routers-2 : tie.Need-slice-read-routers-2
+slice-read-routers-2 c = let long = state-facts _ (c .before .before .before .before .pre .0) .long in omega arith
+
 mul-routers : tie.Need-mul-routers
 mul-routers c = omega (arith, cells-most _ (state-facts _ (c .before .before .before .before .pre .0)))
 
 advance-in-requires : tie.Need-advance-in-requires
 advance-in-requires c κs =
-    let p = c .before .before .before .before .before .before .before .before .before .pre in
-    let small = c .before .before .before .before .if1 .taken in
-    (p .0, (p .1 .0, (none _ 16 small, (omega arith, p .1 .1))))
+    let test = c .before .before .before .before in
+    let p = test .before .before .before .before .before .pre in
+    let small = test .if1 .taken in
+    (state-facts _ (p .0), (record { goes-on = p .1 .0; registers-fit = omega arith; delivery-fits = p .1 .1 }, none _ 16 small))
 
 advance-in-requires-2 : tie.Need-advance-in-requires-2
 advance-in-requires-2 c κs =
-    let p = c .before .before .before .before .before .before .before .before .before .before .pre in
-    let small = c .before .before .before .before .if2 .taken in
-    (p .0, (p .1 .0, (none _ 64 small, (omega arith, p .1 .1))))
+    let test = c .before .before .before .before in
+    let p = test .before .before .before .before .before .before .pre in
+    let small = test .if2 .taken in
+    (state-facts _ (p .0), (record { goes-on = p .1 .0; registers-fit = omega arith; delivery-fits = p .1 .1 }, none _ 64 small))
 
 advance-in-requires-3 : tie.Need-advance-in-requires-3
 advance-in-requires-3 c κs =
-    let p = c .before .before .before .before .before .before .before .before .before .before .pre in
+    let test = c .before .before .before .before in
+    let p = test .before .before .before .before .before .before .pre in
     let most = cells-most _ (state-facts _ (p .0)) in
-    (p .0, (p .1 .0, (none _ 256 most, (omega arith, p .1 .1))))
+    (state-facts _ (p .0), (record { goes-on = p .1 .0; registers-fit = omega arith; delivery-fits = p .1 .1 }, none _ mostRouters most))
 
 pub advance-spec : {M : Type 1} → statement M
 advance-spec =
-    tie.close (tie.spec (λ c. let long = state-facts _ (c .before .before .before .pre .0) .long in omega arith) (λ c. let long = state-facts _ (c .before .before .before .before .pre .0) .long in omega arith) mul-routers
-    (λ c. search needs) (λ c. search needs) advance-in-requires (λ c. search needs) (λ c. search needs) (λ c. c .before .before .before .before .before .before .advance-in .ensures)
-    (λ c. search needs) (λ c. search needs) advance-in-requires-2 (λ c. search needs) (λ c. search needs) (λ c. c .before .before .before .before .before .before .advance-in2 .ensures)
-    (λ c. search needs) (λ c. search needs) advance-in-requires-3 (λ c. search needs) (λ c. search needs) (λ c. c .before .before .before .before .before .before .advance-in3 .ensures))
+    tie.close (tie.spec slice-read-routers slice-read-routers-2 mul-routers
+    (λ c. search needs) (λ c. search needs) advance-in-requires (λ c. search needs) (λ c. search needs)
+    (λ c. c .before .before .before .before .before .before .advance-in .ensures)
+    (λ c. search needs) (λ c. search needs) advance-in-requires-2 (λ c. search needs) (λ c. search needs)
+    (λ c. c .before .before .before .before .before .before .advance-in2 .ensures)
+    (λ c. search needs) (λ c. search needs) advance-in-requires-3 (λ c. search needs) (λ c. search needs)
+    (λ c. c .before .before .before .before .before .before .advance-in3 .ensures))

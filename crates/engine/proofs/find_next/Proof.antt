@@ -5,12 +5,10 @@ use Rattle.engine.proofs.find_next.Tie as tie
 
 route-all-requires : tie.Need-route-all-requires
 route-all-requires c κs =
-    let p = c .before .before .before .before .before .before .before .before .before .before .before .pre in
-    (p .0, (p .1 .0, (c .before .before .before .before .before .find-entrants .ensures, p .1 .1 .1)))
-
-returns : tie.Need-returns
-returns c = (c .before .before .before .before .before .before .before .before .before .before .find-entrants .ensures, c .before .before .before .before .route-all .ensures)
+    let found = c .before .before .before .before .before in
+    let p = found .before .before .before .before .before .before .pre in
+    (p .0, (p .1 .0 .goes-on, (found .find-entrants .ensures, (p .1 .0 .registers-fit, p .1 .0 .delivery-fits))))
 
 pub find-next-spec : {M : Type 1} → statement M
 find-next-spec =
-    tie.close (tie.spec (λ c κs. search needs) route-all-requires (λ c. search needs) (λ c. search needs) (λ c. search needs) returns)
+    tie.close (tie.spec (λ c κs. search needs) route-all-requires (λ c. search needs) (λ c. search needs) (λ c. search needs) (λ c. search needs))

@@ -4,7 +4,7 @@ use borrow.Author.Needs.{needs}
 use native.Mathlib.Omega.{arith}
 use Rattle.state.proofs.Forms.{state-facts}
 use Rattle.cycle.proofs.Facts.{tally-ok}
-use Rattle.engine.proofs.Offered.{offered-over}
+use Rattle.engine.proofs.Next.{offered-over}
 use Rattle.engine.proofs.wait_more.Statement.{statement}
 use Rattle.engine.proofs.wait_more.Tie as tie
 
@@ -17,18 +17,25 @@ add-t8 c =
     let ok = tally-ok _ (state-facts _ (start .pre .0)) (start .args .f) (start .pre .1) in
     rw (c .before .before .tally-at .ensures) (omega arith)
 
+flow-place-requires : tie.Need-flow-place-requires
+flow-place-requires c κs =
+    let start = c .before .before .before .before .before .before in
+    omega (arith, state-facts _ (start .pre .0) .header .count-most, start .pre .1)
+
 put-tally-requires : tie.Need-put-tally-requires
 put-tally-requires c κs =
-    let start = c .before .before .before .before .before .before in
-    let s = state-facts _ (start .pre .0) in
-    omega (arith, s .long, start .pre .1)
+    let tally = c .before .before .before .before in
+    let start = tally .before .before .before in
+    rw (c .flow-place .ensures) (omega (arith, state-facts _ (start .pre .0) .long, start .pre .1))
 
 returns : tie.Need-returns
 returns c =
-    let start = c .before .before .before .before .before .before .before .before .before in
-    c .before .before .put-tally .ensures
-    ∙ rw (c .before .before .before .before .before .before .tally-at .ensures) (offered-over _ (start .pre .0) (start .args .f) (start .pre .1))
+    let put = c .before .before in
+    let tally = put .before .before .before .before .before in
+    let start = tally .before .before .before in
+    put .put-tally .ensures
+    ∙ offered-over _ (state-facts _ (start .pre .0)) (start .args .f) (start .pre .1) _ _ (put .before .flow-place .ensures) (rw (tally .tally-at .ensures))
 
 pub wait-more-spec : {M : Type 1} → statement M
 wait-more-spec =
-    tie.close (tie.spec tally-at-requires add-t8 (λ c. search needs) (λ c. search needs) put-tally-requires (λ c. search needs) returns)
+    tie.close (tie.spec tally-at-requires add-t8 flow-place-requires put-tally-requires (λ c. search needs) returns)
