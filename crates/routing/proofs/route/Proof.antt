@@ -8,7 +8,7 @@ use Rattle.state.specs.Read.{clockIn, stateOf}
 use Rattle.cycle.specs.Sent.{southward, exits}
 use Rattle.cycle.specs.Step.{leaving, delivered}
 use Rattle.cycle.proofs.Sent.{exits-some, delivered-is}
-use Rattle.routing.specs.Walk.{OnGrid, pushed}
+use Rattle.routing.specs.Walk.{OnGrid, AtRouter, pushed}
 use Rattle.routing.proofs.OnGrid.{on-grid, at-router}
 use Rattle.routing.proofs.Flows.{east-sent, south-sent, south-reaches}
 use Rattle.routing.proofs.Push.{pushed-is}
@@ -20,22 +20,21 @@ sent-at-requires c κs =
     let p = c .before .before .before .before .pre in
     (at-router _ _ _ (p .0) _ _ (p .1 .0 .0) (p .1 .0 .1), p .0 .all-entrants)
 
-exits-requires : tie.Need-exits-requires
-exits-requires c κs =
-    let p = c .before .before .before .before .before .pre in
-    (p .0 .facts, rw (c .sent-at .ensures) (south-sent _ (p .0 .facts) _ _ (p .1 .0 .0) (p .1 .0 .1)))
+-- the router is the state's, and on the grid
+here : (c : tie.After-sent-at) → let a = c .before .before .before .before .before .args in AtRouter (a .state .now) (a .x) (a .y)
+here c = let p = c .before .before .before .before .before .pre in at-router _ _ _ (p .0) _ _ (p .1 .0 .0) (p .1 .0 .1)
 
--- the router is on the grid
 on : (c : tie.After-sent-at) → let a = c .before .before .before .before .before .args in OnGrid (a .grid) (a .x) (a .y)
 on c = let p = c .before .before .before .before .before .pre in on-grid _ _ _ (p .0) _ _ (p .1 .0 .0) (p .1 .0 .1)
+
+exits-requires : tie.Need-exits-requires
+exits-requires c κs = (here c .facts, rw (c .sent-at .ensures) (south-sent _ _ _ (here c)))
 
 push-east-requires : tie.Need-push-east-requires
 push-east-requires c κs =
     let sent = c .before .before in
     let p = sent .before .before .before .before .before .pre in
-    let flow = east-sent _ (p .0 .facts) _ _ (p .1 .0 .0) (p .1 .0 .1) in
-    let count = p .0 .facts .header .count-most in
-    (on sent, (rw (sent .sent-at .ensures) (omega (arith, flow)), rw (p .0 .grid) (p .1 .1 .0)))
+    (on sent, (rw (sent .sent-at .ensures) (east-sent _ _ _ (here sent)), rw (p .0 .grid) (p .1 .1 .0)))
 
 -- whether what goes S exits
 home : (c : tie.After-exits) → let a = c .before .before .before .before .before .before .args in let s = stateOf (a .state .now) in
@@ -53,11 +52,10 @@ push-south-requires c κs =
     let east = c .before .before .before .before in
     let sent = east .before .before .before in
     let p = sent .before .before .before .before .before .pre in
-    let flow = south-reaches _ (p .0 .facts) _ _ (p .1 .0 .0) (p .1 .0 .1) (east .before .before .exits .result) in
-    let count = p .0 .facts .header .count-most in (
+    let flow = south-reaches _ _ _ (here sent) (east .before .before .exits .result) in (
       on sent,
       (
-        rw (c .before .unless-exits .ensures, sent .sent-at .ensures) (omega (arith, flow)),
+        rw (c .before .unless-exits .ensures, sent .sent-at .ensures) flow,
         rw (p .0 .grid) (omega (arith, p .1 .1 .0, east .push-east .kept .1 .1 .1 .1 .0)),
       ),
     )
