@@ -1,10 +1,11 @@
 -- The starred cases of 01, as rows of one table (01, Cases on both sides): those on flights and windows, and those on the cycle.
 use mathlib.Core.List.{List, [], _∷_, _++_, map}
 use mathlib.Core.Path.{_≡_}
-use Prim.Native.Nat.{ℕ, zero, suc, _+_, _-_}
+use Prim.Native.Nat.{ℕ, zero, suc}
 use Rattle.flow.specs.declared.Flow.{Flow}
 use Rattle.flow.specs.Plan.{Plan}
 use Rattle.window.specs.Cases as Window
+use Rattle.window.specs.Flight.{flight}
 use Rattle.book.specs.Book.{bucketAt}
 use Rattle.book.specs.Cycle.{Delivery}
 use Rattle.book.specs.Calls.{Call, offer, step, run}
@@ -26,10 +27,6 @@ steps (suc n) = step 80 ∷ steps n
 abbrev exit : ℕ → ℕ → ℕ → ℕ → ℕ → Delivery
 exit f s e t D = record { flow = f; serial = s; entry = e; exit = t; D = D }
 
--- flight is exit − entry + 2
-abbrev flight : Delivery → ℕ
-flight d = d .exit - d .entry + 2
-
 -- what a row says of the definitions
 pub data Case : Type 0 where
   -- a row on flights and windows
@@ -41,7 +38,7 @@ pub data Case : Type 0 where
 
 abbrev pub Holds : Case → Type 0
 Holds (bounds c) = Window.Holds c
-Holds (delivers p cs ds ts) = (run p cs .delivered ≡ ds) × (map flight ds ≡ ts)
+Holds (delivers p cs ds ts) = (run p cs .delivered ≡ ds) × (map (λ (d : Delivery). flight (d .entry) (d .exit)) ds ≡ ts)
 Holds (tokens p cs n) = (bucketAt (run p cs .book) 0) .tokens ≡ n
 
 abbrev pub AllHold : List Case → Type 0

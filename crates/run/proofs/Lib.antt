@@ -13,3 +13,4 @@ pub mod Memory
 pub mod Calls
 pub mod Reset
 pub mod List
+pub mod Answers
