@@ -21,12 +21,13 @@ use Rattle.window.proofs.Flight.{flight-of, flight-bounded}
 use Rattle.bounds.specs.Calls.{windowAnswer}
 use Rattle.bounds.proofs.Told.{window-told, flight-told}
 use Rattle.book.specs.Line.{Line, Stage, waiting, placed, left, isWaiting, isLeft, entryOf, exitOf}
-use Rattle.book.specs.Book.{Book, start, waitingOf, offeredLine, offered}
+use Rattle.book.specs.Book.{Book, start, totalOf, offeredLine, offered}
 use Rattle.book.specs.Calls.{Call, refusal, judged, feed, runFrom, run}
 use Rattle.book.specs.Calls as BookCalls
 use Rattle.book.specs.Promises.{deadline, EntersBy, Flies}
 use Rattle.book.proofs.Queue.{total-split}
 use Rattle.book.proofs.Kept.{Kept, kept-run}
+use Rattle.state.specs.declared.Tally.{Tally}
 use Rattle.state.specs.Words.{stateWords}
 use Rattle.state.specs.Read.{planIn}
 use Rattle.state.specs.Outcome.{Outcome, Lent}
@@ -95,8 +96,10 @@ module _ (p : Plan) (b : Book) (f : ℕ) where
       let s = stands-first 0 (stateWords (bookState p b)) tail in
       let t = tally-at-read (bookState p b) w s f l ∙ tally-at p b f l in
       let c = clock-read (bookState p b) w s in
-      (λ j. record { flow = f; serial = t j .entered + t j .waiting + 1; offer = c j; q = t j .waiting; D = 0; stage = waiting })
-      ∙ ap (λ n. record { flow = f; serial = n + 1; offer = b .clock; q = waitingOf b f; D = 0; stage = waiting }) (sym (total-split b f))
+      let entered = ap (λ (t : Tally). t .entered) t in
+      let q = ap (λ (t : Tally). t .waiting) t in
+      let serial : (acceptedLine w f) .serial ≡ totalOf b f + 1 = omega (arith, entered, q, total-split b f) in
+      λ j. record { flow = f; serial = serial j; offer = c j; q = q j; D = 0; stage = waiting }
 
 module _ (file words : List ℕ) (bytes : Bytes file) (done : (resetOn file words) .answer ≡ Done 0) (is : List Item)
     (l : IsList ((resetOn file words) .memory) is) where
@@ -170,8 +173,8 @@ every-answer file words bytes done is l =
     record {
       enters = λ x m T e past. entered file words bytes done is l x m T _ e (omega arith) past;
       lone-enters = λ x m T e lone past. entered file words bytes done is l x m T _ e (rw lone (omega arith)) past;
-      flies-within = λ x m B e gone. rw (← (flight-told file (x .flow) B e)) (flown file words bytes done is l x m gone);
-      leaves = λ x m B e in-flight past. gone file words bytes done is l x m in-flight (rw (flight-told file (x .flow) B e) past);
+      flies-within = λ x m B e gone. omega (arith, flight-told file (x .flow) B e, flown file words bytes done is l x m gone);
+      leaves = λ x m B e in-flight past. gone file words bytes done is l x m in-flight (omega (arith, flight-told file (x .flow) B e));
       numbers = numbers file words bytes done is l;
       gives-back = λ target room. file-back file _ target (a .value) bytes (a .file-done) (h .formed) (plan-kept file words bytes done is l) room;
     }
