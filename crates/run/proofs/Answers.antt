@@ -171,10 +171,10 @@ every-answer file words bytes done is l =
     let h = follows file words bytes done is l in
     let a = accepted file words done in
     record {
-      enters = λ x m T e past. entered file words bytes done is l x m T _ e (omega arith) past;
+      enters-by-window = λ x m T e past. entered file words bytes done is l x m T _ e (omega arith) past;
       lone-enters = λ x m T e lone past. entered file words bytes done is l x m T _ e (rw lone (omega arith)) past;
       flies-within = λ x m B e gone. omega (arith, flight-told file (x .flow) B e, flown file words bytes done is l x m gone);
-      leaves = λ x m B e in-flight past. gone file words bytes done is l x m in-flight (omega (arith, flight-told file (x .flow) B e));
-      numbers = numbers file words bytes done is l;
-      gives-back = λ target room. file-back file _ target (a .value) bytes (a .file-done) (h .formed) (plan-kept file words bytes done is l) room;
+      leaves-by = λ x m B e in-flight past. gone file words bytes done is l x m in-flight (omega (arith, flight-told file (x .flow) B e));
+      gets-serial = numbers file words bytes done is l;
+      writes-back = λ target room. file-back file _ target (a .value) bytes (a .file-done) (h .formed) (plan-kept file words bytes done is l) room;
     }

@@ -44,7 +44,7 @@ acceptedLine memory f =
 -- the book and the state memory after a list
 pub record Told (file : List ℕ) (is : List Item) (b : Book) (memory : List ℕ) : Type 0 where
   -- if the window call answers T for its flow, a line has entered once the step of cycle offer+(q+1)×(P+T−1)−1 has run
-  pub enters : (l : Line) → Mem l (b .lines) → (T : ℕ) → windowAnswer file (l .flow) ≡ Done T
+  pub enters-by-window : (l : Line) → Mem l (b .lines) → (T : ℕ) → windowAnswer file (l .flow) ≡ Done T
       → HasRun b (deadline (planOf file) l T) → EnteredBy (deadline (planOf file) l T) l
   -- a lone packet (q = 0) waits at most P+T−2, the wait that the listing prints
   pub lone-enters : (l : Line) → Mem l (b .lines) → (T : ℕ) → windowAnswer file (l .flow) ≡ Done T → l .q ≡ 0
@@ -53,13 +53,13 @@ pub record Told (file : List ℕ) (is : List Item) (b : Book) (memory : List ℕ
   pub flies-within : (l : Line) → Mem l (b .lines) → (B : ℕ) → flightAnswer file (l .flow) ≡ Done B
       → isLeft (l .stage) ≡ true → flight (entryOf (l .stage)) (exitOf (l .stage)) ≤ B
   -- and an entered line has left once the step of cycle entry+B−2 has run
-  pub leaves : (l : Line) → Mem l (b .lines) → (B : ℕ) → flightAnswer file (l .flow) ≡ Done B
+  pub leaves-by : (l : Line) → Mem l (b .lines) → (B : ℕ) → flightAnswer file (l .flow) ≡ Done B
       → isWaiting (l .stage) ≡ false → HasRun b (entryOf (l .stage) + B - 2) → isLeft (l .stage) ≡ true
   -- a packet accepted with q waiting gets serial entered + q + 1
-  pub numbers : (f n : ℕ) → let i : Item = record { asked = offer f; lentWords = n } in
+  pub gets-serial : (f n : ℕ) → let i : Item = record { asked = offer f; lentWords = n } in
       (onMemory memory i) .answer ≡ Done 0 → (bookAfter file (is ++ (i ∷ []))) .lines ≡ b .lines ++ (acceptedLine memory f ∷ [])
   -- writing the state with the file's notes gives the file back; target bytes past it are unchanged
-  pub gives-back : (target : List ℕ) → length file ≤ length target
+  pub writes-back : (target : List ℕ) → length file ≤ length target
       → writeOn memory (notesOf file) target ≡ outcome (Done (length file)) (over file target)
 
 -- for every plan file that reset accepts, every state memory of at least its size and every list of calls
