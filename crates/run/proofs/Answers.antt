@@ -37,7 +37,7 @@ use Rattle.reset.proofs.Accepted.{never, accepted}
 use Rattle.writing.proofs.Back.{file-back}
 use Rattle.run.specs.List.{offer, Item, onMemory, memoryAfter, role, roleIn, IsList, fedAs, fed, due, Follows}
 use Rattle.run.specs.View.{bookState}
-use Rattle.run.specs.Answers.{bookAfter, HasRun, EnteredBy, acceptedLine, Told, EveryAnswer}
+use Rattle.run.specs.Answers.{bookAfter, HasRun, EnteredBy, acceptedLine, EveryAnswer}
 use Rattle.run.proofs.View.{tally-at}
 use Rattle.run.proofs.Memory.{image, plan-is}
 use Rattle.run.proofs.Calls.{below}
