@@ -1,7 +1,7 @@
 -- The starred cases of 01, as rows of one table (01, Cases on both sides). All are 4 by 4.
 use mathlib.Core.List.{List, [], _∷_, map}
 use mathlib.Core.Path.{_≡_}
-use Prim.Native.Nat.{ℕ, zero, suc, _+_, _-_}
+use Prim.Native.Nat.{ℕ, zero, suc}
 use Rattle.flow.specs.declared.Flow.{Flow}
 use Rattle.flow.specs.Offsets.{ΔX, ΔY}
 use Rattle.flow.specs.Plan.{Plan, flowAt}
@@ -10,7 +10,7 @@ use Rattle.window.specs.declared.Window.{Window}
 use Rattle.window.specs.declared.Window.the-variants.{At, Nothing}
 use Rattle.window.specs.Conflict.{conflict}
 use Rattle.window.specs.Window.{windowOf}
-use Rattle.window.specs.Flight.{flightOf, flightBound}
+use Rattle.window.specs.Flight.{flight, flightOf, flightBound}
 use Rattle.book.specs.Book.{bucketAt}
 use Rattle.router.specs.Delivery.{Delivery}
 use Rattle.book.specs.Calls.{Call, offer, step, run}
@@ -31,16 +31,12 @@ steps (suc n) = step 80 ∷ steps n
 abbrev exit : ℕ → ℕ → ℕ → ℕ → ℕ → Delivery
 exit f s e t D = record { flow = f; serial = s; entry = e; exit = t; D = D }
 
--- flight is exit − entry + 2
-abbrev flown : Delivery → ℕ
-flown d = d .exit - d .entry + 2
-
 -- what a row says of the definitions
 pub data Case : Type 0 where
   -- ΔX and ΔY of a flow
   offsets : Flow → ℕ → ℕ → Case
   -- a flow's flight unhindered
-  flight : Flow → ℕ → Case
+  unhindered : Flow → ℕ → Case
   -- a flow's flight bound
   bound : Flow → ℕ → Case
   -- the spread of flow 1 at the source of flow 0
@@ -54,11 +50,11 @@ pub data Case : Type 0 where
 
 abbrev pub Holds : Case → Type 0
 Holds (offsets f dx dy) = (ΔX 4 f ≡ dx) × (ΔY 4 f ≡ dy)
-Holds (flight f n) = flightOf 4 4 f 0 ≡ n
+Holds (unhindered f n) = flightOf 4 4 f 0 ≡ n
 Holds (bound f n) = flightBound 4 4 f ≡ n
 Holds (spread p j) = conflict 4 4 (flowAt p 0) (flowAt p 1) ≡ Spread j
 Holds (window p found) = windowOf p 0 ≡ found
-Holds (delivers p cs ds ts) = (run p cs .delivered ≡ ds) × (map flown ds ≡ ts)
+Holds (delivers p cs ds ts) = (run p cs .delivered ≡ ds) × (map (λ (d : Delivery). flight (d .entry) (d .exit)) ds ≡ ts)
 Holds (tokens p cs n) = (bucketAt (run p cs .book) 0) .tokens ≡ n
 
 abbrev pub AllHold : List Case → Type 0
@@ -91,14 +87,14 @@ slow = torus (flow 0 0 3 3 10 1 ∷ [])
 
 abbrev pub starred : List Case
 starred =
-    flight far 8
+    unhindered far 8
     ∷ bound far 20
     ∷ delivers (torus (far ∷ [])) (offer 0 ∷ steps 7) (exit 0 1 0 6 0 ∷ []) (8 ∷ [])
     ∷ offsets south 0 2
-    ∷ flight south 4
+    ∷ unhindered south 4
     ∷ bound south 12
     ∷ delivers (torus (south ∷ [])) (offer 0 ∷ steps 3) (exit 0 1 0 2 0 ∷ []) (4 ∷ [])
-    ∷ flight home 2
+    ∷ unhindered home 2
     ∷ delivers (torus (home ∷ [])) (offer 0 ∷ steps 1) (exit 0 1 0 0 0 ∷ []) (2 ∷ [])
     ∷ delivers meeting (offer 0 ∷ offer 1 ∷ steps 6) (exit 1 1 0 1 0 ∷ exit 0 1 0 5 1 ∷ []) (3 ∷ 7 ∷ [])
     ∷ window (across 10 1) (At 2)

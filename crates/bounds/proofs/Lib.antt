@@ -2,3 +2,4 @@
 pub mod Opened
 pub mod Asked
 pub mod Numbers
+pub mod Told

@@ -47,7 +47,7 @@ pub record Accepted (file memory : List ℕ) : Type 0 where
   pub file-done : planAnswer file ≡ Done value
   pub long : planSize (planOf file) ≤ length memory
 
-never : (n place v : ℕ) → Refused n place ≡ Done v → ⊥
+pub never : (n place v : ℕ) → Refused n place ≡ Done v → ⊥
 never n place v e = let z : _≡_ {A = ℕ} 0 1 = cc in omega arith
 
 done-parts : (a : Answer) (memory : List ℕ) (o : Outcome Answer (List ℕ)) → (unlessRefused a memory o) .answer ≡ Done 0

@@ -48,7 +48,7 @@ module _ (p : Plan) (b : Book) (k : Kept p b) (tail : List ℕ) where
   unfolding bookState refusal
   step-number room = refl
 
-  below : (f : ℕ) → refusal p b (BookCalls.offer f) ≡ 0 → f < length (p .flows)
+  pub below : (f : ℕ) → refusal p b (BookCalls.offer f) ≡ 0 → f < length (p .flows)
   unfolding refusal offerNumber
   below f e = leb-false _ _ (passed (leb (length (p .flows)) f) 11 (cond (leb mostWaiting (waitingOf b f)) 13 0) e .0)
 

@@ -9,3 +9,4 @@ pub mod Memory
 pub mod Calls
 pub mod Reset
 pub mod List
+pub mod Answers

@@ -66,7 +66,7 @@ module _ (p : Plan) (words : List ℕ) where
     m = image p b tail
 
     -- what an item does in this role: it leaves what is due, and the words of the book that it was fed to
-    abbrev Does : Item → Role → Type 0
+    abbrev pub Does : Item → Role → Type 0
     Does i r =
         let o : Outcome Answer (List ℕ) = due p b words i r in
         onMemory m i ≡ outcome (o .answer) (lent (image p (runFrom p b (fedAs r) .book) tail) (o .memory))
@@ -108,7 +108,7 @@ module _ (p : Plan) (words : List ℕ) where
       does-little (write notes target) few may = unchanged m (item (write notes target)) _ _ (rw (short p b tail k n few))
       does-little (reset file) few may = does-reset file may
 
-    does : (i : Item) → MayCome (role (i .asked)) ((onMemory m i) .answer) → Does i (roleIn p i)
+    pub does : (i : Item) → MayCome (role (i .asked)) ((onMemory m i) .answer) → Does i (roleIn p i)
     does i may =
         elim (test (ltb (i .lentWords) (planSize p))) [
           | inl few ↦ rw few (does-little (i .lentWords) (i .asked) (ltb-true _ _ few) may)

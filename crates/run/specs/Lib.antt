@@ -1,3 +1,4 @@
--- The state of a packet book, and whole lists of calls.
+-- The state of a packet book, whole lists of calls, and what the calls' answers tell of them.
 pub mod View
 pub mod List
+pub mod Answers

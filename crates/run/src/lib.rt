@@ -1,1 +1,1 @@
-// The theorem on whole lists of calls: no code, only specs/ and proofs/. Rests on book, state and cycle.
+// The theorems on whole lists of calls: no code, only specs/ and proofs/. Rests on book, state, cycle, bounds and writing.

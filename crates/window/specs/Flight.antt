@@ -1,5 +1,5 @@
 -- The flight of a packet and its bound (01, One cycle; Windows).
-use Prim.Native.Nat.{ℕ, _+_, _*_}
+use Prim.Native.Nat.{ℕ, _+_, _-_, _*_}
 use Rattle.flow.specs.declared.Flow.{Flow}
 use Rattle.flow.specs.Offsets.{ΔX, ΔY}
 
@@ -8,6 +8,10 @@ abbrev pub travel : ℕ → ℕ → Flow → ℕ → ℕ
 travel sx sy f D = ΔX sx f + ΔY sy f + D * sx
 
 -- flight is exit − entry + 2
+abbrev pub flight : (entry exit : ℕ) → ℕ
+flight entry exit = exit - entry + 2
+
+-- the flight of a packet with D deflections, whatever its entry (proofs/Flight, flight-of)
 abbrev pub flightOf : ℕ → ℕ → Flow → ℕ → ℕ
 flightOf sx sy f D = travel sx sy f D + 2
 

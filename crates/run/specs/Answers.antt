@@ -1,0 +1,70 @@
+-- What the calls' own answers tell of a whole list from an accepted file's reset: a planner reads windows and flight bounds off the
+-- calls, and the packet book bears them out (01, Windows; State memory; The packet book).
+use mathlib.Core.Bool.{true, false}
+use mathlib.Core.List.{List, [], _∷_, _++_, List·Memᴰ as Mem}
+use mathlib.Core.Path.{_≡_}
+use Prim.Native.Nat.{ℕ, _+_, _-_, _≤_, _<_}
+use lib.ListN.{length, getD}
+use Rattle.flow.specs.Plan.{flowAt}
+use Rattle.plan.specs.declared.Answer.the-variants.{Done}
+use Rattle.plan.specs.Layout.{planOf}
+use Rattle.plan.specs.Notes.{notesOf}
+use Rattle.window.specs.Window.{loneWait}
+use Rattle.window.specs.Flight.{flight}
+use Rattle.bounds.specs.Calls.{windowAnswer, flightBoundAnswer}
+use Rattle.book.specs.Line.{Line, waiting, isWaiting, isLeft, entryOf, exitOf}
+use Rattle.book.specs.Book.{Book}
+use Rattle.book.specs.Calls.{run}
+use Rattle.book.specs.Promises.{deadline}
+use Rattle.state.specs.Layout.{flowPlace}
+use Rattle.state.specs.Read.{clockIn, tallyIn}
+use Rattle.state.specs.Outcome.{outcome, over}
+use Rattle.state.specs.Calls.{resetOn, writeOn}
+use Rattle.run.specs.List.{offer, Item, onMemory, memoryAfter, IsList, fed}
+
+-- the packet book after a list from the file's reset
+abbrev pub bookAfter : (file : List ℕ) → List Item → Book
+bookAfter file is = (run (planOf file) (fed (planOf file) is)) .book
+
+-- the step of this cycle has run
+abbrev pub HasRun : Book → (cycle : ℕ) → Type 0
+HasRun b cycle = cycle < b .clock
+
+-- the line has an entry, in this cycle or an earlier one
+abbrev pub EnteredBy : (cycle : ℕ) → Line → Type 0
+EnteredBy cycle l = (isWaiting (l .stage) ≡ false) × (entryOf (l .stage) ≤ cycle)
+
+-- the line of a packet of flow f that is accepted on this state memory, with q waiting: its serial is entered + q + 1
+abbrev pub acceptedLine : (memory : List ℕ) → (f : ℕ) → Line
+acceptedLine memory f =
+    let entered = (tallyIn memory (flowPlace f)) .entered in
+    let q = (tallyIn memory (flowPlace f)) .waiting in
+    record { flow = f; serial = entered + q + 1; offer = clockIn memory; q = q; D = 0; stage = waiting }
+
+-- the book and the state memory after a list
+pub record Told (file : List ℕ) (is : List Item) (b : Book) (memory : List ℕ) : Type 0 where
+  -- if the window call answers T for its flow, a line has entered once the step of cycle offer+(q+1)×(P+T−1)−1 has run
+  pub enters-by-window : (l : Line) → Mem l (b .lines) → (T : ℕ) → windowAnswer file (l .flow) ≡ Done T
+      → HasRun b (deadline (planOf file) l T) → EnteredBy (deadline (planOf file) l T) l
+  -- a lone packet (q = 0) waits at most P+T−2, the wait that the listing prints
+  pub lone-enters : (l : Line) → Mem l (b .lines) → (T : ℕ) → windowAnswer file (l .flow) ≡ Done T → l .q ≡ 0
+      → let last = l .offer + loneWait (flowAt (planOf file) (l .flow)) T in HasRun b last → EnteredBy last l
+  -- if the flight call answers B for its flow, the flight of a line that has left, exit − entry + 2, is at most B
+  pub flies-within : (l : Line) → Mem l (b .lines) → (B : ℕ) → flightBoundAnswer file (l .flow) ≡ Done B
+      → isLeft (l .stage) ≡ true → flight (entryOf (l .stage)) (exitOf (l .stage)) ≤ B
+  -- and an entered line has left once the step of cycle entry+B−2 has run
+  pub leaves-by : (l : Line) → Mem l (b .lines) → (B : ℕ) → flightBoundAnswer file (l .flow) ≡ Done B
+      → isWaiting (l .stage) ≡ false → HasRun b (entryOf (l .stage) + B - 2) → isLeft (l .stage) ≡ true
+  -- a packet accepted with q waiting gets serial entered + q + 1
+  pub gets-serial : (f n : ℕ) → let i : Item = record { asked = offer f; lentWords = n } in
+      (onMemory memory i) .answer ≡ Done 0 → (bookAfter file (is ++ (i ∷ []))) .lines ≡ b .lines ++ (acceptedLine memory f ∷ [])
+  -- writing the state with the file's notes gives the file back; target bytes past it are unchanged
+  pub writes-back : (target : List ℕ) → length file ≤ length target
+      → writeOn memory (notesOf file) target ≡ outcome (Done (length file)) (over file target)
+
+-- for every plan file that reset accepts, every state memory of at least its size and every list of calls
+abbrev pub EveryAnswer : Type 0
+EveryAnswer =
+    (file words : List ℕ) → ((i : ℕ) → getD file i 0 < 256) → (resetOn file words) .answer ≡ Done 0
+    → (is : List Item) → IsList ((resetOn file words) .memory) is
+    → Told file is (bookAfter file is) (memoryAfter ((resetOn file words) .memory) is)
