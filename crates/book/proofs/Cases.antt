@@ -19,7 +19,8 @@ joined [] cs w h = h
 joined (c ∷ ws) cs w h = (w .0, joined ws cs (w .1) h)
 
 on-cycle : AllHold onCycle
-unfolding Bounded.tabulate Bounded.firstBelow Axis.offset Axis.next Regulator.afterCount Regulator.afterCycle Links.reach Rule.turnsSouth Rule.isOpen Rule.ready Rule.enters holds sent lowest deliveries refusal feed Limits.offerNumber Limits.stepNumber
+unfolding Bounded.tabulate Bounded.firstBelow Axis.offset Axis.next Regulator.afterCount Regulator.afterCycle Links.reach
+    Rule.turnsSouth Rule.isOpen Rule.ready Rule.enters holds sent lowest deliveries refusal feed Limits.offerNumber Limits.stepNumber
 on-cycle = ((refl, refl), ((refl, refl), ((refl, refl), ((refl, refl), (refl, (refl, (refl, tt)))))))
 
 pub starred-hold : AllHold starred

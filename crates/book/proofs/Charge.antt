@@ -2,7 +2,7 @@
 -- Rests on Takers; the sum over flows against I(t) is in Interference.
 use mathlib.Core.Bool.{Bool, true, false, not, _&&_, false≢true}
 use mathlib.Core.List.{List·Memᴰ as Mem}
-use mathlib.Core.Logic.{_⊎_, inl, inr, _≢_}
+use mathlib.Core.Logic.{inl, inr, _≢_}
 use mathlib.Core.Path.{_≡_, refl, sym, ap, _∙_}
 use Prim.Native.Nat.{ℕ, suc, _+_, _≤_, _<_}
 use native.Mathlib.Omega.{arith}
@@ -40,7 +40,8 @@ passed p f s c l = not (eqb (l .flow) f) && passedAt p (flowAt p f) (flowAt p (l
 pub record HasPassed (p : Plan) (f s c : ℕ) (l : Line) : Type 0 where
   pub other : l .flow ≢ f
   pub entered : isWaiting (l .stage) ≡ false
-  pub by-then : passedBy (meeting (p .sx) (p .sy) (flowAt p f) (flowAt p (l .flow))) s c (entryOf (l .stage)) (progress p (flowAt p (l .flow)) (l .stage)) ≡ true
+  pub by-then : passedBy (meeting (p .sx) (p .sy) (flowAt p f) (flowAt p (l .flow))) s c (entryOf (l .stage)) (progress p (flowAt p (l .flow)) (l .stage))
+      ≡ true
 
 pub has-passed : (p : Plan) (f s c : ℕ) (l : Line) → passed p f s c l ≡ true → HasPassed p f s c l
 has-passed p f s c l t =
@@ -82,9 +83,10 @@ module _ (p : Plan) (b : Book) (law : Lawful p b) (f : ℕ) where
       → Sound p (flowAt p (z .flow)) (b .clock) D st → Takes p b f z st → z .flow ≢ f
   takes-other z okz D waiting h t same = t .2 same
   takes-other z okz D (placed e at) h t same =
-      false≢true
-      (sym (away p φ (flowAt p (z .flow)) okz (b .clock) D e at (t .0) (t .1) h)
-      ∙ both-eqb (φ .xs) ((flowAt p (z .flow)) .xs) (φ .ys) ((flowAt p (z .flow)) .ys) (ap (λ (g : ℕ). (flowAt p g) .xs) (sym same)) (ap (λ (g : ℕ). (flowAt p g) .ys) (sym same)))
+      let ψ : Flow = flowAt p (z .flow) in
+      let is : φ ≡ ψ = ap (flowAt p) (sym same) in
+      let own = both-eqb (φ .xs) (ψ .xs) (φ .ys) (ψ .ys) (ap (λ (g : Flow). g .xs) is) (ap (λ (g : Flow). g .ys) is) in
+      false≢true (sym (away p φ ψ okz (b .clock) D e at (t .0) (t .1) h) ∙ own)
   takes-other z okz D (left e t x y) h t′ same = absurd t′
 
   -- a line that goes, and a line in a register of f's router

@@ -101,7 +101,8 @@ module _ (p : Plan) (b : Book) (law : Lawful p b) (r : Delivery → Bool) where
   leaving : (l : Line) (D : ℕ) (s : Stage) → Sound p (flowAt p (l .flow)) c D s
       → let new : Stage = moveStage p b l s in
       let words : ℕ → Stage → Delivery = λ d u. record { flow = l .flow; serial = l .serial; entry = entryOf u; exit = exitOf u; D = d } in
-      one (isLeft new && r (words (D + one (isDeflected p b s)) new)) ≡ one (isLeft s && r (words D s)) + one (leftIn c new && r (words (D + one (isDeflected p b s)) new))
+      let after : ℕ = D + one (isDeflected p b s) in
+      one (isLeft new && r (words after new)) ≡ one (isLeft s && r (words D s)) + one (leftIn c new && r (words after new))
   leaving l D waiting h =
       elim (test (enters p b (l .flow) && lowest b l)) [ inl go ↦ rw (go, sent-left) (omega arith) | inr go ↦ rw go ]
   leaving l D (placed e at) h = rw sent-left (omega arith)

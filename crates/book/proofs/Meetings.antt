@@ -58,7 +58,10 @@ meeting-conflict sx sy f g =
       | inl same ↦ rw same
       | inr other ↦ elim (test (ltb 0 (ΔX sx f))) [
         | inl east ↦ elim (test (eqb (rowsTo sy f g) 0)) [
-          | inl row ↦ elim (test (leb 1 (columnsTo sx f g) && leb (columnsTo sx f g) (ΔX sx g))) [ inl t ↦ rw (other, east, row, t) | inr t ↦ rw (other, east, row, t) ]
+          | inl row ↦ elim (test (leb 1 (columnsTo sx f g) && leb (columnsTo sx f g) (ΔX sx g))) [
+            | inl t ↦ rw (other, east, row, t)
+            | inr t ↦ rw (other, east, row, t)
+          ]
           | inr row ↦ elim (test (leb (rowsTo sy f g) (ΔY sy g))) [ inl t ↦ rw (other, east, row, t) | inr t ↦ rw (other, east, row, t) ]
         ]
         | inr south ↦ elim (test (eqb (g .xd) (f .xs) && leb (rowsTo sy f g) (ΔY sy g))) [ inl t ↦ rw (other, south, t) | inr t ↦ rw (other, south, t) ]

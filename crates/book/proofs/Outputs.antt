@@ -18,10 +18,9 @@ use Rattle.laws.proofs.Keep.{keep-same, keep-none, length-keep}
 use Rattle.flow.specs.declared.Flow.{Flow}
 use Rattle.flow.specs.Offsets.{portOf}
 use Rattle.flow.specs.Plan.{Plan, flowAt}
-use Rattle.place.specs.Place.{Place, W, N, columnOf, rowOf, samePlace}
-use Rattle.router.specs.Rule.{Seen, Way, sameWay, takes, isOpen, isClient, isFlow, entrant, wayBy, wayIn}
-use Rattle.router.proofs.Links.{place-same}
-use Rattle.router.proofs.Rule.{way-same, takes-own, north-yields, open-west, open-north}
+use Rattle.place.specs.Place.{Place, W, N, columnOf, rowOf}
+use Rattle.router.specs.Rule.{Seen, Way, sameWay, takes, isClient, isFlow, entrant, wayIn}
+use Rattle.router.proofs.Rule.{way-refl, way-same, takes-own, north-yields, open-west, open-north}
 use Rattle.router.proofs.Entrant.{Found, no-entrant, has-entrant, found, entering-ready, enters-at}
 use Rattle.book.specs.Line.{Stage, waiting, placed, left, Line, isWaiting, standsIn}
 use Rattle.book.specs.Book.{Book, ofFlow}
@@ -82,15 +81,25 @@ module _ (p : Plan) (b : Book) (x y : ℕ) where
       ]
   source o l (left e t x′ y′) own = in-neither refl refl refl
 
-  -- its way is by an open port, so no packet of the router takes it
-  client-clear : (o : Way) (l : Line) → comes o l ≡ true → (takes s (W x y) o ≡ false) × (takes s (N x y) o ≡ false)
-  client-clear o l t =
-      let φ : Flow = flowAt p (l .flow) in
+  -- what such a line is
+  record Comer (o : Way) (l : Line) : Type 0 where
+    enters-now : enters p b (l .flow) ≡ true
+    client : isClient p x y (l .flow) ≡ true
+    way : wayIn p (l .flow) ≡ o
+
+  comer : (o : Way) (l : Line) → comes o l ≡ true → Comer o l
+  comer o l t =
       let a = and-true (goes p b l) (isClient p x y (l .flow) && sameWay (wayIn p (l .flow)) o) t in
       let c = and-true (isClient p x y (l .flow)) (sameWay (wayIn p (l .flow)) o) (a .1) in
-      let at = eqb-both x (φ .xs) y (φ .ys) (c .0) in
-      let opened = entering-ready p (view p b) (l .flow) (goes-enters p b l (a .0)) .opened in
-      rw (at .0, at .1, ← (way-same (wayIn p (l .flow)) o (c .1))) (
+      record { enters-now = goes-enters p b l (a .0); client = c .0; way = way-same (wayIn p (l .flow)) o (c .1) }
+
+  -- its way is by an open port, so no packet of the router takes it
+  client-clear : (o : Way) (l : Line) → Comer o l → (takes s (W x y) o ≡ false) × (takes s (N x y) o ≡ false)
+  client-clear o l h =
+      let φ : Flow = flowAt p (l .flow) in
+      let at = eqb-both x (φ .xs) y (φ .ys) (h .client) in
+      let opened = entering-ready p (view p b) (l .flow) (h .enters-now) .opened in
+      rw (at .0, at .1, ← (h .way)) (
         open-west (seen p b (φ .xs) (φ .ys)) (φ .xs) (φ .ys) (portOf (p .sx) φ) φ opened,
         open-north (seen p b (φ .xs) (φ .ys)) (φ .xs) (φ .ys) (portOf (p .sx) φ) φ opened,
       )
@@ -99,30 +108,24 @@ module _ (p : Plan) (b : Book) (x y : ℕ) where
   entrants : (o : Way) → keep (comes o) (b .lines) ≡ entrantsOf p b o (entrant p (view p b) x y)
   entrants o = by-entrant refl (found p (view p b) x y)
     where
-      parts : (l : Line) → comes o l ≡ true → (goes p b l ≡ true) × (isClient p x y (l .flow) ≡ true) × (sameWay (wayIn p (l .flow)) o ≡ true)
-      parts l t =
-          let a = and-true (goes p b l) (isClient p x y (l .flow) && sameWay (wayIn p (l .flow)) o) t in
-          let c = and-true (isClient p x y (l .flow)) (sameWay (wayIn p (l .flow)) o) (a .1) in
-          (a .0, c .0, c .1)
-
       -- a line that comes is of that flow
-      is-flow : (l : Line) → comes o l ≡ true → isFlow (l .flow) (entrant p (view p b) x y) ≡ true
-      is-flow l t = let h = parts l t in sym (enters-at p (view p b) x y (l .flow) (h .1)) ∙ goes-enters p b l (h .0)
+      is-flow : (l : Line) → Comer o l → isFlow (l .flow) (entrant p (view p b) x y) ≡ true
+      is-flow l h = sym (enters-at p (view p b) x y (l .flow) (h .client)) ∙ h .enters-now
 
       by-entrant : {e : Option ℕ} → entrant p (view p b) x y ≡ e → Found p (view p b) x y e → keep (comes o) (b .lines) ≡ entrantsOf p b o e
       by-entrant e (no-entrant low) =
-          keep-none (comes o) (b .lines) (λ l m. never (comes o l) (λ t. false≢true (sym (ap (isFlow (l .flow)) e) ∙ is-flow l t)))
+          keep-none (comes o) (b .lines) (λ l m. never (comes o l) (λ t. false≢true (sym (ap (isFlow (l .flow)) e) ∙ is-flow l (comer o l t))))
       by-entrant e (has-entrant f h) =
           elim (test (sameWay (wayIn p f) o)) [
             | inl way ↦ rw way (keep-same (comes o) (λ l. ofFlow f l && goes p b l) (b .lines) (λ l m. same way l))
-            | inr way ↦ rw way (keep-none (comes o) (b .lines) (λ l m. never (comes o l) (λ t. other way l t)))
+            | inr way ↦ rw way (keep-none (comes o) (b .lines) (λ l m. never (comes o l) (λ t. other way l (comer o l t))))
           ]
         where
-          own : (l : Line) → comes o l ≡ true → f ≡ l .flow
+          own : (l : Line) → Comer o l → f ≡ l .flow
           own l t = eqb-true f (l .flow) (sym (ap (isFlow (l .flow)) e) ∙ is-flow l t)
 
-          other : sameWay (wayIn p f) o ≡ false → (l : Line) → comes o l ≡ true → ⊥
-          other way l t = false≢true (sym way ∙ ap (λ (g : ℕ). sameWay (wayIn p g) o) (own l t) ∙ parts l t .2)
+          other : sameWay (wayIn p f) o ≡ false → (l : Line) → Comer o l → ⊥
+          other way l t = false≢true (sym way ∙ ap (λ (u : Way). sameWay u o) (ap (wayIn p) (own l t) ∙ t .way) ∙ way-refl o)
 
           same : sameWay (wayIn p f) o ≡ true → (l : Line) → comes o l ≡ ofFlow f l && goes p b l
           same way l =
@@ -132,7 +135,7 @@ module _ (p : Plan) (b : Book) (x y : ℕ) where
                     let so : isClient p x y (l .flow) && sameWay (wayIn p (l .flow)) o ≡ true
                     = ap (λ (g : ℕ). isClient p x y g && sameWay (wayIn p g) o) is ∙ rw (at, way) in
                     ap (λ (t : Bool). goes p b l && t) so ∙ rw (eq-eqb (l .flow) f is) (and-so (goes p b l))
-                | no other ↦ rw (ne-eqb (l .flow) f other) (never (comes o l) (λ t. other (sym (own l t))))
+                | no other ↦ rw (ne-eqb (l .flow) f other) (never (comes o l) (λ t. other (sym (own l (comer o l t)))))
               ]
 
   module _ (apart : Apart b) where
@@ -153,12 +156,12 @@ module _ (p : Plan) (b : Book) (x y : ℕ) where
         west : takes s (W x y) o ≡ true → (l : Line) → Source o l (l .stage) → leavesBy p b x y o l ≡ standsIn (W x y) (l .stage)
         west w l (in-west h k c e) = e ∙ w ∙ sym h
         west w l (in-north h k c e) = e ∙ north-yields s x y o w ∙ sym h
-        west w l (in-neither h k e) = e ∙ never (comes o l) (λ t. false≢true (sym (client-clear o l t .0) ∙ w)) ∙ sym h
+        west w l (in-neither h k e) = e ∙ never (comes o l) (λ t. false≢true (sym (client-clear o l (comer o l t) .0) ∙ w)) ∙ sym h
 
         north : takes s (W x y) o ≡ false → takes s (N x y) o ≡ true → (l : Line) → Source o l (l .stage) → leavesBy p b x y o l ≡ standsIn (N x y) (l .stage)
         north w n l (in-west h k c e) = e ∙ w ∙ sym k
         north w n l (in-north h k c e) = e ∙ n ∙ sym k
-        north w n l (in-neither h k e) = e ∙ never (comes o l) (λ t. false≢true (sym (client-clear o l t .1) ∙ n)) ∙ sym k
+        north w n l (in-neither h k e) = e ∙ never (comes o l) (λ t. false≢true (sym (client-clear o l (comer o l t) .1) ∙ n)) ∙ sym k
 
         neither : takes s (W x y) o ≡ false → takes s (N x y) o ≡ false → (l : Line) → Source o l (l .stage) → leavesBy p b x y o l ≡ comes o l
         neither w n l (in-west h k c e) = e ∙ w ∙ sym c

@@ -90,7 +90,9 @@ module _ (p : Plan) (f : ℕ) (in-plan : f < length (p .flows)) (T H : ℕ) (sum
           from = from;
           begun = begun;
           head = head;
-          due = λ l m own w. let k = mem-map (b .lines) m in rw (k .2) (due (k .0) (k .1) (rw (k .2) at own) (waited p b (k .0) (turn p b (k .0)) (rw (k .2) at w)));
+          due = λ l m own w.
+              let k = mem-map (b .lines) m in
+              rw (k .2) (due (k .0) (k .1) (rw (k .2) at own) (waited p b (k .0) (turn p b (k .0)) (rw (k .2) at w)));
           timely = λ l m own e. let k = mem-map (b .lines) m in rw (k .2) (timely-step (k .0) (k .1) (rw (k .2) at own) (turn p b (k .0)) (rw (k .2) at e));
         }
 
@@ -99,7 +101,9 @@ module _ (p : Plan) (f : ℕ) (in-plan : f < length (p .flows)) (T H : ℕ) (sum
     pace-step =
         let fresh = head-fresh p f in-plan T window (stepped p b) (lawful-step p b law) in
         elim (test (enters p b f)) [
-          | inl go ↦ after (b .clock + 1) (omega arith) fresh (λ l m own w. rw (entered-step b (law .queued) p f, go) (omega (arith, pace .due l m own w, head-time)))
+          | inl go ↦
+              after (b .clock + 1) (omega arith) fresh
+              (λ l m own w. rw (entered-step b (law .queued) p f, go) (omega (arith, pace .due l m own w, head-time)))
           | inr out ↦ elim (test (any (waitsFor f) (b .lines))) [
             | inr none ↦
                 after (b .clock + 1) (omega arith) fresh

@@ -1,7 +1,7 @@
 -- A flow's queue: its serials are 1..n in the order of its offers, the entered ones first; so the waiting line of lowest
 -- serial has the serial entered + 1, and one line enters where its flow does. Rests on Moves.
 use mathlib.Core.Bool.{Bool, true, false, not, _&&_, and-false}
-use mathlib.Core.List.{List, [], _∷_, _++_, map, map-append, map-map, append-nil, List·Memᴰ as Mem}
+use mathlib.Core.List.{[], _∷_, _++_, map, map-append, map-map, append-nil, List·Memᴰ as Mem}
 use mathlib.Core.Logic.{_⊎_, inl, inr, _≢_}
 use mathlib.Core.Path.{_≡_, refl, sym, ap, _∙_}
 use Prim.Native.Nat.{ℕ, zero, suc, _+_, _≤_, _<_}
@@ -14,7 +14,8 @@ use Rattle.laws.specs.Bounded.{tabulate}
 use Rattle.laws.specs.Count.{one, count, any, keep}
 use Rattle.laws.proofs.Cases.{test, and-true}
 use Rattle.laws.proofs.Bounded.{tabulate-more}
-use Rattle.laws.proofs.Count.{mem-map, mem-snoc, any-true, any-mem, mem-count, count-find, count-append, count-map, count-same, count-sum, count-none, count-mono, count-keep}
+use Rattle.laws.proofs.Count.{mem-map, mem-snoc, any-true, any-mem, mem-count, count-find}
+use Rattle.laws.proofs.Count.{count-append, count-map, count-same, count-sum, count-none, count-keep}
 use Rattle.laws.proofs.Keep.{keep-append, keep-map}
 use Rattle.flow.specs.Plan.{Plan}
 use Rattle.router.proofs.Entrant.{entering-ready}
@@ -181,7 +182,8 @@ module _ (b : Book) (q : Queued b) where
         ∙ count-sum (λ l. enteredFor f (move p b l)) (enteredFor f) (λ l. ofFlow f l && goes p b l) (b .lines) (λ l m. sums (ofFlow f l) l (turn p b l))
         ∙ ap (λ (n : ℕ). enteredOf b f + n) (goes-count f)
       where
-        sums : (s : Bool) (l : Line) → Turn p b l → one (s && not (isWaiting ((move p b l) .stage))) ≡ one (s && not (isWaiting (l .stage))) + one (s && goes p b l)
+        sums : (s : Bool) (l : Line) → Turn p b l
+            → one (s && not (isWaiting ((move p b l) .stage))) ≡ one (s && not (isWaiting (l .stage))) + one (s && goes p b l)
         sums false l t = refl
         sums true l (keeps w w′ e g) = rw (g, w, w′)
         sums true l (stays w w′ g) = rw (g, w, w′)
@@ -191,7 +193,11 @@ module _ (b : Book) (q : Queued b) where
     pub queued-step : Queued (stepped p b)
     queued-step =
         record {
-          numbered = λ f. ap (map serialOf) (keep-map (ofFlow f) (move p b) (b .lines)) ∙ map-map serialOf (move p b) (keep (ofFlow f) (b .lines)) ∙ q .numbered f ∙ ap (λ (n : ℕ). tabulate n (λ i. i + 1)) (sym (count-map (ofFlow f) (move p b) (b .lines)));
+          numbered = λ f.
+              ap (map serialOf) (keep-map (ofFlow f) (move p b) (b .lines))
+              ∙ map-map serialOf (move p b) (keep (ofFlow f) (b .lines))
+              ∙ q .numbered f
+              ∙ ap (λ (n : ℕ). tabulate n (λ i. i + 1)) (sym (count-map (ofFlow f) (move p b) (b .lines)));
           entered-first = λ l m. let k = mem-map (b .lines) m in rw (k .2) (first (k .0) (k .1) (turn p b (k .0)));
         }
       where
@@ -219,7 +225,10 @@ module _ (b : Book) (q : Queued b) where
   pub queued-offer : (f : ℕ) → Queued (offered b f)
   queued-offer f =
       record {
-        numbered = λ g. ap (map serialOf) (keep-append (ofFlow g) (b .lines) (new′ ∷ [])) ∙ map-append serialOf (keep (ofFlow g) (b .lines)) (keep (ofFlow g) (new′ ∷ [])) ∙ more g;
+        numbered = λ g.
+            ap (map serialOf) (keep-append (ofFlow g) (b .lines) (new′ ∷ []))
+            ∙ map-append serialOf (keep (ofFlow g) (b .lines)) (keep (ofFlow g) (new′ ∷ []))
+            ∙ more g;
         entered-first = λ l m. elim (mem-snoc (b .lines) m) [
           | inl old ↦ rw (entered-offer b f (l .flow)) (q .entered-first l old)
           | inr new ↦ rw (new, entered-offer b f f, lt-ltb (enteredOf b f) (totalOf b f + 1) (omega (arith, total-split b f)))

@@ -1,10 +1,10 @@
 -- The lines that a way out of a router sends are, after the step, those in the register that it reaches, or those that left there in
 -- this cycle. Rests on Outputs, Traced and the laws of links.
-use mathlib.Core.Bool.{Bool, true, false, _&&_, and-true as and-so, and-false}
-use mathlib.Core.List.{List, map, List·Memᴰ as Mem}
+use mathlib.Core.Bool.{Bool, false, _&&_, and-true as and-so, and-false}
+use mathlib.Core.List.{map, List·Memᴰ as Mem}
 use mathlib.Core.Logic.{inl, inr}
 use mathlib.Core.Path.{_≡_, refl, sym, ap, _∙_}
-use Prim.Native.Nat.{ℕ, _+_, _<_}
+use Prim.Native.Nat.{ℕ, _<_}
 use native.Mathlib.Omega.{arith}
 use borrow.Author.Tests.{eq-eqb, ne-eqb}
 use lib.Dec.{eqb}

@@ -119,6 +119,9 @@ module _ (p : Plan) (b : Book) (law : Lawful p b) where
       new true k m (stays w w′ g) = rw (g, w, w′)
       new true k m (comes w w′ e g) = rw (g, w, w′, e, le-leb a (b .clock) l, lt-ltb (b .clock) (b .clock + 1) (omega arith))
 
+  token : (f : ℕ) → enters p b f ≡ true → 1 ≤ (bucketAt b f) .tokens
+  token f e = ltb-true 0 ((bucketAt b f) .tokens) (entering-ready p (view p b) f e .token)
+
   pub lawful-step : Lawful p (stepped p b)
   lawful-step =
       record {
@@ -127,6 +130,6 @@ module _ (p : Plan) (b : Book) (law : Lawful p b) where
         queued = queued-step b (law .queued) p;
         regulated = λ f l.
             rw (bucket-step p b f l)
-            (cycle _ _ (bucketAt b f) (b .clock) (span b f) (law .regulated f l) (enters p b f) (λ e. ltb-true 0 ((bucketAt b f) .tokens) (entering-ready p (view p b) f e .token)) (span (stepped p b) f)
+            (cycle _ _ (bucketAt b f) (b .clock) (span b f) (law .regulated f l) (enters p b f) (token f) (span (stepped p b) f)
             (span-old f) (span-new f) (span-none (stepped p b) f (b .clock + 1)));
       }

@@ -107,7 +107,9 @@ module _ (p : Plan) (ok : PlanOk p) (b : Book) (tr : Traced p b) where
   traced-step =
       record {
         known = λ l m. let k = mem-map (b .lines) m in rw (k .2) (tr .known (k .0) (k .1));
-        sound = λ l m. let k = mem-map (b .lines) m in rw (k .2) (moved-sound p b (k .0) (line-ok (k .0) (k .1)) (k .0 .D) (k .0 .stage) (tr .sound (k .0) (k .1)));
+        sound = λ l m.
+            let k = mem-map (b .lines) m in
+            rw (k .2) (moved-sound p b (k .0) (line-ok (k .0) (k .1)) (k .0 .D) (k .0 .stage) (tr .sound (k .0) (k .1)));
       }
 
   pub traced-offer : (f : ℕ) → f < length (p .flows) → Traced p (offered b f)

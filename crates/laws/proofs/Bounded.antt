@@ -1,5 +1,5 @@
 -- Laws of bounded tests, sums and tabulated lists. Rests on specs/Bounded.
-use mathlib.Core.Bool.{Bool, true, false, cond, _&&_, _||_, false≢true}
+use mathlib.Core.Bool.{Bool, true, false, cond, _&&_}
 use mathlib.Core.List.{List, [], _∷_, _++_}
 use mathlib.Core.Logic.{_⊎_, inl, inr}
 use mathlib.Core.Option.{Option, none, some}
@@ -10,7 +10,7 @@ use native.Mathlib.Numerals.{add-one}
 use native.Mathlib.Omega.{arith}
 use lib.ListN.{length, getD, length-append, List·getD-append}
 use lib.Seq.{getD-at, ext-getD}
-use Rattle.laws.specs.Bounded.{allBelow, anyBelow, firstOf, firstBelow, tabulate}
+use Rattle.laws.specs.Bounded.{allBelow, firstOf, firstBelow, tabulate}
 use Rattle.laws.proofs.Cases.{and-true, test}
 
 pub all-none : (p : ℕ → Bool) → allBelow 0 p ≡ true
@@ -43,17 +43,6 @@ all-fails p (suc n) i l e =
     last true b h = h
     last false b h = refl
 
--- the first of the numbers below n that pass
-pub first-below : (p : ℕ → Bool) (n : ℕ) → anyBelow n p ≡ true → (i : ℕ) × (i < n) × (p i ≡ true) × (anyBelow i p ≡ false)
-unfolding anyBelow
-first-below p zero h = absurd (false≢true h)
-first-below p (suc n) h = pick (λ e. first-below p n e) (test (anyBelow n p))
-  where
-    pick : (anyBelow n p ≡ true → (i : ℕ) × (i < n) × (p i ≡ true) × (anyBelow i p ≡ false)) → (anyBelow n p ≡ true) ⊎ (anyBelow n p ≡ false)
-        → (i : ℕ) × (i < suc n) × (p i ≡ true) × (anyBelow i p ≡ false)
-    pick earlier (inl e) = let f = earlier e in (f .0, omega (arith, f .1), f .2, f .3)
-    pick earlier (inr e) = (n, omega arith, rw e at h, e)
-
 -- what a search for the first number below n finds: no one passes, or f does and no lower number
 pub data First (p : ℕ → Bool) (n : ℕ) : Option ℕ → Type 0 where
   nowhere : ((i : ℕ) → i < n → p i ≡ false) → First p n none
@@ -74,34 +63,6 @@ pub first-same : (p q : ℕ → Bool) (n : ℕ) → ((i : ℕ) → i < n → p i
 unfolding firstBelow
 first-same p q zero h = refl
 first-same p q (suc n) h = rw (first-same p q n (λ i l. h i (omega arith)), h n (omega arith))
-
-pub none-below : (p : ℕ → Bool) (n : ℕ) → ((i : ℕ) → i < n → p i ≡ false) → anyBelow n p ≡ false
-unfolding anyBelow
-none-below p zero h = refl
-none-below p (suc n) h = rw (none-below p n (λ i l. h i (omega arith)), h n (omega arith))
-
--- equal tests, equal findings
-pub any-same : (p q : ℕ → Bool) (n : ℕ) → ((i : ℕ) → i < n → p i ≡ q i) → anyBelow n p ≡ anyBelow n q
-unfolding anyBelow
-any-same p q zero h = refl
-any-same p q (suc n) h = rw (any-same p q n (λ i l. h i (omega arith)), h n (omega arith))
-
-pub none-at : (p : ℕ → Bool) (n : ℕ) → anyBelow n p ≡ false → (i : ℕ) → i < n → p i ≡ false
-unfolding anyBelow
-none-at p zero h i l = absurd (omega arith)
-none-at p (suc n) h i l =
-    elim (eq-or-lt-of-le (le-of-suc-le-suc l)) [
-      | inl same ↦ rw same (second (anyBelow n p) (p n) h)
-      | inr below ↦ none-at p n (first (anyBelow n p) (p n) h) i below
-    ]
-  where
-    first : (a b : Bool) → a || b ≡ false → a ≡ false
-    first true b e = e
-    first false b e = refl
-
-    second : (a b : Bool) → a || b ≡ false → b ≡ false
-    second true b e = absurd (false≢true (sym e))
-    second false b e = e
 
 module _ {A : Type 0} where
   pub length-tabulate : (n : ℕ) (f : ℕ → A) → length (tabulate n f) ≡ n

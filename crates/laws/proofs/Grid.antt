@@ -60,7 +60,8 @@ module _ {A : Type 0} (d : A) (c sx sy : ℕ) (g : ℕ → ℕ → List A) (long
       → ((x y : ℕ) → x < sx → y < sy → Stands d l (at + c * cellIndex sx x y) (g x y)) → Stands d l at (rows sx sy g)
   stands-rows l at room s =
       stands-join d l at (c * sx) sy (λ y. joinBelow sx (λ x. g x y)) (omega arith) row-length
-      (λ y k. stands-join d l (at + c * sx * y) c sx (λ x. g x y) (omega (arith, mul-le-mul-left {m = y} {n = sy} (c * sx) (omega arith), mul-assoc c sx sy)) (λ x h. long x y h k)
+      (λ y k. stands-join d l (at + c * sx * y) c sx (λ x. g x y)
+      (omega (arith, mul-le-mul-left {m = y} {n = sy} (c * sx) (omega arith), mul-assoc c sx sy)) (λ x h. long x y h k)
       (λ x h. rw (add-assoc, place c sx x y) (s x y h k)))
 
 module _ {A : Type 0} where

@@ -1,14 +1,13 @@
 -- Laws of the members that pass a test, and of lists joined end to end. Rests on specs/Count.
-use mathlib.Core.Bool.{Bool, true, false, _&&_}
+use mathlib.Core.Bool.{Bool, true, false}
 use mathlib.Core.List.{List, [], _∷_, _++_, map, List·Memᴰ as Mem, List·Memᴰ·head as here, List·Memᴰ·tail as there}
 use mathlib.Core.Logic.{_⊎_, inl, inr}
 use mathlib.Core.Path.{_≡_, refl, _∙_}
 use Prim.Native.Nat.{ℕ, zero, suc, _≤_}
 use native.Mathlib.Omega.{arith}
 use lib.Dec.{ltb}
-use lib.ListN.{length, length-append}
+use lib.ListN.{length}
 use borrow.Author.Tests.{lt-ltb}
-use Rattle.laws.specs.Bounded.{sumBelow}
 use Rattle.laws.specs.Count.{count, any, keep, joinBelow}
 use Rattle.laws.proofs.Cases.{test}
 use Rattle.laws.proofs.Count.{any-count, none-count, mem-count}
@@ -19,10 +18,6 @@ module _ {A : Type 0} where
   keep-same t u [] h = refl
   keep-same t u (z ∷ l) h = rw (h z (here refl), keep-same t u l (λ x m. h x (there m)))
 
-  pub keep-all : (l : List A) → keep (λ x. true) l ≡ l
-  keep-all [] = refl
-  keep-all (z ∷ l) = rw (keep-all l)
-
   pub keep-none : (t : A → Bool) (l : List A) → ((x : A) → Mem x l → t x ≡ false) → keep t l ≡ []
   keep-none t [] h = refl
   keep-none t (z ∷ l) h = rw (h z (here refl), keep-none t l (λ x m. h x (there m)))
@@ -30,10 +25,6 @@ module _ {A : Type 0} where
   pub keep-append : (t : A → Bool) (l m : List A) → keep t (l ++ m) ≡ keep t l ++ keep t m
   keep-append t [] m = refl
   keep-append t (z ∷ l) m = elim (test (t z)) [ inl e ↦ rw (e, keep-append t l m) | inr e ↦ rw (e, keep-append t l m) ]
-
-  pub keep-both : (t u : A → Bool) (l : List A) → keep (λ x. t x && u x) l ≡ keep u (keep t l)
-  keep-both t u [] = refl
-  keep-both t u (z ∷ l) = elim (test (t z)) [ inl e ↦ rw (e, keep-both t u l) | inr e ↦ rw (e, keep-both t u l) ]
 
   pub keep-map : {B : Type 0} (t : B → Bool) (f : A → B) (l : List A) → keep t (map f l) ≡ map f (keep (λ x. t (f x)) l)
   keep-map t f [] = refl
@@ -56,12 +47,6 @@ module _ {A : Type 0} where
   length-keep t [] = refl
   length-keep t (z ∷ l) = elim (test (t z)) [ inl e ↦ rw (e, length-keep t l) (omega arith) | inr e ↦ rw (e, length-keep t l) (omega arith) ]
 
-  -- at most one member
-  pub few : (l : List A) → length l ≤ 1 → (l ≡ []) ⊎ ((x : A) × (l ≡ x ∷ []))
-  few [] h = inl refl
-  few (x ∷ []) h = inr (x, refl)
-  few (x ∷ y ∷ l) h = absurd (omega arith)
-
   -- the only member that passes
   pub keep-one : (t : A → Bool) (l : List A) → count t l ≤ 1 → (x : A) → Mem x l → t x ≡ true → keep t l ≡ x ∷ []
   keep-one t (z ∷ l) h x (here s) e =
@@ -71,10 +56,6 @@ module _ {A : Type 0} where
         | inl k ↦ absurd (omega (arith, mem-count t l m e, rw k at h))
         | inr k ↦ rw k (keep-one t l (omega (arith, rw k at h)) x m e)
       ]
-
-  pub any-both : (t u : A → Bool) (l : List A) → any (λ x. t x && u x) l ≡ any u (keep t l)
-  any-both t u [] = refl
-  any-both t u (z ∷ l) = elim (test (t z)) [ inl e ↦ rw (e, any-both t u l) | inr e ↦ rw (e, any-both t u l) ]
 
   -- one member passes where the count is not 0
   pub any-by-count : (t : A → Bool) (l : List A) → any t l ≡ ltb 0 (count t l)
@@ -89,12 +70,3 @@ module _ {A : Type 0} where
       → (n : ℕ) (f : ℕ → List A) → h (joinBelow n f) ≡ joinBelow n (λ i. h (f i))
   join-through h none both zero f = none
   join-through h none both (suc n) f = both (joinBelow n f) (f n) ∙ rw (join-through h none both n f)
-
-  pub map-append : {B : Type 0} (f : A → B) (l m : List A) → map f (l ++ m) ≡ map f l ++ map f m
-  map-append f [] m = refl
-  map-append f (z ∷ l) m = rw (map-append f l m)
-
-  pub join-length : (n : ℕ) (f : ℕ → List A) → length (joinBelow n f) ≡ sumBelow n (λ i. length (f i))
-  unfolding sumBelow
-  join-length zero f = refl
-  join-length (suc n) f = rw (length-append (joinBelow n f) (f n), join-length n f)

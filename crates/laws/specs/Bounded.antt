@@ -1,5 +1,5 @@
 -- Tests and sums over the numbers below a bound, and a list of that length by its entries.
-use mathlib.Core.Bool.{Bool, true, false, cond, _&&_, _||_}
+use mathlib.Core.Bool.{Bool, true, cond, _&&_}
 use mathlib.Core.List.{List, [], _∷_, _++_}
 use mathlib.Core.Option.{Option, none, some}
 use Prim.Native.Nat.{ℕ, zero, suc, _+_}
@@ -8,11 +8,6 @@ use Prim.Native.Nat.{ℕ, zero, suc, _+_}
 unfoldable pub allBelow : ℕ → (ℕ → Bool) → Bool
 allBelow zero p = true
 allBelow (suc n) p = allBelow n p && p n
-
--- p holds of some number below n
-unfoldable pub anyBelow : ℕ → (ℕ → Bool) → Bool
-anyBelow zero p = false
-anyBelow (suc n) p = anyBelow n p || p n
 
 -- the first of the two that there is
 abbrev pub firstOf : Option ℕ → Option ℕ → Option ℕ

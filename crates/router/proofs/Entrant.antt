@@ -7,12 +7,10 @@ use mathlib.Core.Path.{_≡_, refl, sym, ap, subst, _∙_}
 use Prim.Native.Nat.{ℕ, _≤_, _<_}
 use native.Mathlib.Decide.{ℕ-discrete, decLt}
 use native.Mathlib.Omega.{arith}
-use borrow.Author.Tests.{eq-eqb, eqb-true, ne-eqb}
-use lib.Dec.{eqb}
+use borrow.Author.Tests.{eq-eqb, eqb-true}
 use lib.ListN.{length}
 use Rattle.laws.proofs.Cases.{and-true, eqb-both, both-eqb}
 use Rattle.laws.proofs.Bounded.{First, nowhere, first-at, finds, first-same}
-use Rattle.flow.specs.declared.Flow.{Flow}
 use Rattle.flow.specs.Offsets.{portOf, sameClient}
 use Rattle.flow.specs.Plan.{Plan, flowAt, PlanOk}
 use Rattle.router.specs.Rule.{View, isOpen, ready, isClient, entrant, isFlow, enters}
@@ -105,15 +103,6 @@ module _ (p : Plan) (v : View) where
               | no other ↦ absurd (false≢true (sym (h .lowest f (omega arith)) ∙ rw (own, r)))
             ]
           ]
-
-  -- and only one
-  pub one-enters : (f g : ℕ) → enters p v f ≡ true → enters p v g ≡ true → sameClient (flowAt p f) (flowAt p g) ≡ true → f ≡ g
-  one-enters f g e h same =
-      let c = eqb-both ((flowAt p f) .xs) ((flowAt p g) .xs) ((flowAt p f) .ys) ((flowAt p g) .ys) same in
-      let back = both-eqb ((flowAt p g) .xs) ((flowAt p f) .xs) ((flowAt p g) .ys) ((flowAt p f) .ys) (sym (c .0)) (sym (c .1)) in
-      let below = lowest-enters f g e (entering g h .is-ready) same in
-      let above = lowest-enters g f h (entering f e .is-ready) back in
-      omega arith
 
 -- two views that say the same of the plan's flows and of the torus's routers
 pub record Agree (p : Plan) (v w : View) : Type 0 where

@@ -1,5 +1,5 @@
 -- Laws of rules 1 to 3 in one router: no two packets take one way out, and an open port is one that nobody takes. Rests on specs/Rule.
-use mathlib.Core.Bool.{Bool, true, false, cond, not, _&&_, false≢true}
+use mathlib.Core.Bool.{true, false, not, _&&_, false≢true}
 use mathlib.Core.Logic.{inl, inr}
 use mathlib.Core.Option.{Option, none, some}
 use mathlib.Core.Path.{_≡_, refl, sym, ap, _∙_}
@@ -63,17 +63,17 @@ module _ (s : Seen) (x y : ℕ) where
   deflection-is f = elim (test (turnsSouth x (s .west))) [ inl t ↦ rw t | inr t ↦ rw t ]
 
   -- an open port is neither's
+  north-elsewhere : (o : Port) (f : Flow) → isOpen s x o ≡ true → s .north ≡ some f → samePort o (portFrom s (N x y) f) ≡ false
+  unfolding isOpen turnsSouth
+  north-elsewhere East f h e = rw (empty-stays x (s .west) h)
+  north-elsewhere South f h e = absurd (false≢true (rw e at h))
+
   west-elsewhere : (o : Port) (f : Flow) → isOpen s x o ≡ true → s .west ≡ some f → samePort o (portFrom s (W x y) f) ≡ false
   unfolding isOpen turnsSouth
   west-elsewhere East f h e = absurd (false≢true (rw e at h))
   west-elsewhere South f h e =
       let stays = not-true (turnsSouth x (s .west)) (and-true (noPacket (s .north)) (not (turnsSouth x (s .west))) h .1) in
       rw (rw e at stays)
-
-  north-elsewhere : (o : Port) (f : Flow) → isOpen s x o ≡ true → s .north ≡ some f → samePort o (portFrom s (N x y) f) ≡ false
-  unfolding isOpen turnsSouth
-  north-elsewhere East f h e = rw (empty-stays x (s .west) h)
-  north-elsewhere South f h e = absurd (false≢true (rw e at h))
 
 -- the packet in a register takes its own way
 pub takes-own : (s : Seen) (at : Place) (f : Flow) (o : Way) → heldIn s at ≡ some f → takes s at o ≡ sameWay (wayFrom s at f) o

@@ -1,7 +1,7 @@
 -- Each call on state memory that holds the words of a book: its answer and all memory lent are the book's. Rests on Memory,
 -- Offer, Step and Delivery.
 use mathlib.Core.Bool.{cond}
-use mathlib.Core.List.{List}
+use mathlib.Core.List.{List, []}
 use mathlib.Core.Logic.{inl, inr}
 use mathlib.Core.Path.{_≡_, refl}
 use Prim.Native.Nat.{ℕ, zero, suc, _<_}
@@ -16,17 +16,18 @@ use Rattle.flow.specs.Limits.{mostWaiting, offerNumber, stepNumber}
 use Rattle.book.specs.Calls.{Fed, judged, feed, refusal}
 use Rattle.book.specs.Calls as BookCalls
 use Rattle.book.proofs.Kept.{Kept}
+use Rattle.plan.specs.declared.Answer.{Answer}
 use Rattle.plan.specs.declared.Answer.the-variants.{Done}
 use Rattle.plan.specs.Written.{planBytes}
 use Rattle.state.specs.State.{tallyAt}
 use Rattle.state.specs.Words.{stateWords}
-use Rattle.state.specs.Forms.{stateNumber}
-use Rattle.state.specs.Outcome.{outcome, lent, refused, unless, over}
+use Rattle.state.specs.Outcome.{Outcome, outcome, lent, unless, over}
 use Rattle.state.specs.Calls.{bytesOn, writeOn}
 use Rattle.cycle.specs.Offer.{offerState}
 use Rattle.cycle.specs.Step.{stepState, deliveries}
 use Rattle.cycle.specs.Calls.{offerOn, stepOn}
 use Rattle.run.specs.View.{bookState}
+use Rattle.run.specs.List.{offer, step, write, onWords}
 use Rattle.run.proofs.View.{tally-at}
 use Rattle.run.proofs.Step.{step-follows}
 use Rattle.run.proofs.Delivery.{deliveries-follow}
@@ -53,7 +54,8 @@ module _ (p : Plan) (b : Book) (k : Kept p b) (tail : List ℕ) where
 
   -- and by that number do the same
   offer-by : (f n : ℕ) → refusal p b (BookCalls.offer f) ≡ n → let now : Fed = judged p b (BookCalls.offer f) n in
-      unless n w (outcome (Done 0) (over (stateWords (offerState (bookState p b) f)) w)) ≡ outcome (now .reply) (image p (now .book) tail)
+      let o : Outcome Answer (List ℕ) = unless n w (outcome (Done 0) (over (stateWords (offerState (bookState p b) f)) w)) in
+      outcome (o .answer) (lent (o .memory) []) ≡ outcome (now .reply) (lent (image p (now .book) tail) (over (wordsOf (now .delivered)) []))
   unfolding unless
   offer-by f zero e = rw (offer-follows p b f (below f e), image-again p b tail)
   offer-by f (suc n) e = refl
@@ -67,30 +69,17 @@ module _ (p : Plan) (b : Book) (k : Kept p b) (tail : List ℕ) where
   step-by delivery (suc n) = refl
 
   pub offer-on : (f : ℕ) → let now : Fed = feed p b (BookCalls.offer f) in
-      offerOn w f ≡ outcome (now .reply) (image p (now .book) tail)
+      onWords (offer f) w ≡ outcome (now .reply) (lent (image p (now .book) tail) (over (wordsOf (now .delivered)) []))
   unfolding offerOn unless feed
   offer-on f = rw (number p b tail k, view p b tail, offer-number f) (offer-by f (refusal p b (BookCalls.offer f)) refl)
 
   pub step-on : (delivery : List ℕ) → let now : Fed = feed p b (BookCalls.step (length delivery)) in
-      stepOn w delivery ≡ outcome (now .reply) (lent (image p (now .book) tail) (over (wordsOf (now .delivered)) delivery))
+      onWords (step delivery) w ≡ outcome (now .reply) (lent (image p (now .book) tail) (over (wordsOf (now .delivered)) delivery))
   unfolding stepOn unless feed
   step-on delivery =
       rw (number p b tail k, view p b tail, step-number (length delivery)) (step-by delivery (refusal p b (BookCalls.step (length delivery))))
 
-  pub write-on : (notes target : List ℕ) → writeOn w notes target ≡ bytesOn (planBytes notes p) target
+  pub write-on : (notes target : List ℕ) → let o : Outcome Answer (List ℕ) = bytesOn (planBytes notes p) target in
+      onWords (write notes target) w ≡ outcome (o .answer) (lent w (o .memory))
   unfolding writeOn unless
   write-on notes target = rw (number p b tail k, plan-is p b tail)
-
--- a call lent too little of the state memory
-module _ (words : List ℕ) (few : stateNumber words ≡ 8) where
-  pub short-offer : (f : ℕ) → offerOn words f ≡ refused 8 words
-  unfolding offerOn unless
-  short-offer f = rw few
-
-  pub short-step : (delivery : List ℕ) → stepOn words delivery ≡ refused 8 (lent words delivery)
-  unfolding stepOn unless
-  short-step delivery = rw few
-
-  pub short-write : (notes target : List ℕ) → writeOn words notes target ≡ refused 8 target
-  unfolding writeOn unless
-  short-write notes target = rw few

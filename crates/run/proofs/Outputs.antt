@@ -1,9 +1,9 @@
 -- What a way out of a router carries is the packet of the line that the book sends there, if any (01, One cycle, rules 1 and 3). Rests on
 -- View and the book's Outputs.
-use mathlib.Core.Bool.{Bool, true, false, cond, _&&_, false≢true}
+use mathlib.Core.Bool.{Bool, true, false, _&&_, false≢true}
 use mathlib.Core.List.{List, [], _∷_, map, List·Memᴰ as Mem, List·Memᴰ·head as here}
 use mathlib.Core.Logic.{inl, inr}
-use mathlib.Core.Option.{Option, none, some}
+use mathlib.Core.Option.{Option}
 use mathlib.Core.Path.{_≡_, refl, sym, ap, _∙_}
 use Prim.Native.Nat.{ℕ, _+_, _<_}
 use native.Mathlib.Nat.{add-zero}
@@ -17,7 +17,7 @@ use Rattle.laws.proofs.Keep.{kept, keep-one}
 use Rattle.flow.specs.declared.Flow.{Flow}
 use Rattle.flow.specs.Plan.{Plan, flowAt}
 use Rattle.place.specs.Place.{Place, W, N, columnOf, rowOf}
-use Rattle.router.specs.Rule.{Seen, deflects, Way, sameWay, takes, entrant, isFlow, wayIn}
+use Rattle.router.specs.Rule.{deflects, Way, sameWay, takes, entrant, isFlow, wayIn}
 use Rattle.router.proofs.Links.{place-same}
 use Rattle.router.proofs.Entrant.{Found, no-entrant, has-entrant, found, enters-at}
 use Rattle.book.specs.Line.{Stage, waiting, placed, left, Line, isWaiting, standsIn, entryOf}
@@ -28,9 +28,7 @@ use Rattle.book.proofs.Queue.{lowest-next, goes-count}
 use Rattle.book.proofs.Traced.{Sound}
 use Rattle.book.proofs.Outputs.{outgoing, entrantsOf, leaving}
 use Rattle.book.proofs.Kept.{Kept}
-use Rattle.state.specs.declared.Register.{Register}
 use Rattle.state.specs.declared.Register.the-variants.{Empty, Packet}
-use Rattle.state.specs.State.{State}
 use Rattle.cycle.specs.Step.{onward, entering, sendsBy, sentBy, carried}
 use Rattle.run.specs.View.{packetOf, holding, registerOf, bookState}
 use Rattle.run.proofs.View.{tally-at, cell-at, seen-same, entrants-agree}

@@ -1,7 +1,6 @@
 -- What stands in the state of a book: each flow's tally, each router's registers. So the rule is fed the same by both, and the same
 -- flows enter. Rests on specs/View and the rule's law of views that agree.
 use mathlib.Core.List.{List, [], _∷_}
-use mathlib.Core.Option.{Option}
 use mathlib.Core.Path.{_≡_, refl, sym, ap, _∙_}
 use Prim.Native.Nat.{ℕ, _<_}
 use lib.Dec.{ltb}

@@ -2,7 +2,7 @@
 -- every word of the state are the packet book's (01, The packet book).
 -- A later request's call is one case more of `Asked`, `onWords` and `role`; all else is said of any call.
 use mathlib.Core.Bool.{cond}
-use mathlib.Core.List.{List, [], _∷_, _++_}
+use mathlib.Core.List.{List, [], _∷_, _++_, map}
 use mathlib.Core.Path.{_≡_}
 use Prim.Native.Nat.{ℕ, _*_, _<_}
 use lib.Dec.{ltb}
@@ -42,13 +42,13 @@ onWords (reset file) words = outcome ((resetOn file words) .answer) (lent ((rese
 -- an item of a list: a call, and how many words of the state memory it is lent
 pub record Item : Type 0 where
   pub asked : Asked
-  pub words : ℕ
+  pub lentWords : ℕ
 
 -- it is lent the first words of the state memory; the others stay
 abbrev pub onMemory : (memory : List ℕ) → Item → Outcome Answer Lent
 onMemory memory i =
-    let o : Outcome Answer Lent = onWords (i .asked) (take (i .words) memory) in
-    outcome (o .answer) (lent (o .memory .state ++ drop (i .words) memory) (o .memory .other))
+    let o : Outcome Answer Lent = onWords (i .asked) (take (i .lentWords) memory) in
+    outcome (o .answer) (lent (o .memory .state ++ drop (i .lentWords) memory) (o .memory .other))
 
 -- the state memory after a list: each call is lent it as the last one left it
 abbrev pub memoryAfter : (memory : List ℕ) → List Item → List ℕ
@@ -75,7 +75,7 @@ tooLittle (between tells other) = between (λ p b. refused 8) other
 tooLittle resets = resets
 
 abbrev pub roleIn : Plan → Item → Role
-roleIn p i = cond (ltb (i .words) (planSize p)) (tooLittle (role (i .asked))) (role (i .asked))
+roleIn p i = cond (ltb (i .lentWords) (planSize p)) (tooLittle (role (i .asked))) (role (i .asked))
 
 -- a list ends before the next accepted reset: the one condition on it
 abbrev pub MayCome : Role → Answer → Type 0
@@ -120,26 +120,32 @@ abbrev pub expected : Plan → Book → (words : List ℕ) → List Item → Lis
 expected p b words [] = []
 expected p b words (i ∷ is) = due p b words i (roleIn p i) ∷ expected p ((runFrom p b (fedAs (roleIn p i))) .book) words is
 
--- the words that the steps delivered, in order: five for each exit that a step answers
+-- the outcomes of the fed calls, in order
+abbrev pub ofFed : Role → Outcome Answer (List ℕ) → List (Outcome Answer (List ℕ))
+ofFed (feeds call other) o = o ∷ []
+ofFed (between tells other) o = []
+ofFed resets o = []
+
+abbrev pub fedOutcomes : Plan → (memory : List ℕ) → List Item → List (Outcome Answer (List ℕ))
+fedOutcomes p memory [] = []
+fedOutcomes p memory (i ∷ is) = ofFed (roleIn p i) (beside (onMemory memory i)) ++ fedOutcomes p ((onMemory memory i) .memory .state) is
+
+-- five words for each exit that a call answers
 abbrev pub wordCount : Answer → ℕ
 wordCount (Done count) = exitSize * count
 wordCount (Refused number place) = 0
 
-abbrev pub deliveredBy : Role → Outcome Answer (List ℕ) → List ℕ
-deliveredBy (feeds call other) o = take (wordCount (o .answer)) (o .memory)
-deliveredBy (between tells other) o = []
-deliveredBy resets o = []
-
-abbrev pub deliveredWords : (memory : List ℕ) → List Item → List ℕ
-deliveredWords memory [] = []
-deliveredWords memory (i ∷ is) =
-    deliveredBy (role (i .asked)) (beside (onMemory memory i)) ++ deliveredWords ((onMemory memory i) .memory .state) is
+abbrev pub deliveredBy : List (Outcome Answer (List ℕ)) → List ℕ
+deliveredBy [] = []
+deliveredBy (o ∷ os) = take (wordCount (o .answer)) (o .memory) ++ deliveredBy os
 
 -- what a list comes to, from the state memory that an accepted reset of plan p left of the lent words
 pub record Follows (p : Plan) (words memory : List ℕ) (is : List Item) : Type 0 where
-  -- each call's answer and the words that the steps delivered, in order, are the book's
+  -- each call's answer, and what was lent to it beside the state memory, are the book's
   pub answered : outcomes memory is ≡ expected p (start p) words is
-  pub delivered : deliveredWords memory is ≡ wordsOf ((run p (fed p is)) .delivered)
+  -- so are the fed calls' answers and the words that the steps delivered, in order
+  pub replied : map (λ (o : Outcome Answer (List ℕ)). o .answer) (fedOutcomes p memory is) ≡ (run p (fed p is)) .replies
+  pub delivered : deliveredBy (fedOutcomes p memory is) ≡ wordsOf ((run p (fed p is)) .delivered)
   -- so is every word of the state; words past its size are as lent
   pub state : memoryAfter memory is ≡ bookMemory p ((run p (fed p is)) .book) words
   -- these words form a state: 9 never comes up, and 8 only for too little of them

@@ -87,15 +87,6 @@ next-previous size at l =
       | inr h ↦ elim (next-cases size (previous size at) (previous-below size at l)) [ inl k ↦ absurd (omega arith) | inr k ↦ omega arith ]
     ]
 
-pub previous-next : (size at : ℕ) → at < size → previous size (next size at) ≡ at
-previous-next size at l =
-    next-one size (previous size (next size at)) at (previous-below size (next size at) (next-below size at l)) l
-    (next-previous size (next size at) (next-below size at l))
-
--- each place is next to one
-pub next-of : (size to : ℕ) → to < size → (at : ℕ) × (at < size) × (next size at ≡ to)
-next-of size to l = (previous size to, previous-below size to l, next-previous size to l)
-
 -- one place on, the offset is one more, or the ring is round
 pub offset-next : (size from at : ℕ) → from < size → at < size
     → ((offset size from at + 1 < size) × (offset size from (next size at) ≡ offset size from at + 1))
@@ -125,7 +116,8 @@ offset-short size from at to f l m short other =
     let apart : offset size from at ≢ offset size from to = λ e. other (offset-one size from at to f l m e) in omega arith
 
 -- the lap is the offset, but the size where that is 0
-pub lap-cases : (size from to : ℕ) → ((offset size from to ≡ 0) × (lap size from to ≡ size)) ⊎ ((1 ≤ offset size from to) × (lap size from to ≡ offset size from to))
+pub lap-cases : (size from to : ℕ)
+    → ((offset size from to ≡ 0) × (lap size from to ≡ size)) ⊎ ((1 ≤ offset size from to) × (lap size from to ≡ offset size from to))
 unfolding lap
 lap-cases size from to =
     elim (ℕ-discrete (offset size from to) 0) [
