@@ -32,7 +32,7 @@ use Rattle.reset.proofs.Accepted.{accepted, leaves}
 use Rattle.cycle.specs.Calls.{offerOn, stepOn}
 use Rattle.run.specs.List.{Asked, offer, step, write, reset, onWords, Item, onMemory, memoryAfter, Role, feeds, between, resets, role, tooLittle, roleIn}
 use Rattle.run.specs.List.{MayCome, IsList, fedAs, fed, beside, outcomes, bookMemory, due, expected}
-use Rattle.run.specs.List.{ofFed, fedOutcomes, wordCount, deliveredBy, EveryList}
+use Rattle.run.specs.List.{fedOutcomes, wordCount, deliveredBy, EveryList}
 use Rattle.run.specs.View.{bookState}
 use Rattle.run.proofs.Offer.{start-follows}
 use Rattle.run.proofs.Memory.{image, image-part, image-rest, number, short}
@@ -130,7 +130,7 @@ module _ (p : Plan) (words : List ℕ) where
   -- a call in any role, then the rest
   then : (b : Book) (i : Item) (r : Role) {outs later fed : List (Outcome Answer (List ℕ))} {memory : List ℕ} (cs : List Call)
       → Right outs later fed memory (runFrom p (runFrom p b (fedAs r) .book) cs)
-      → let o = due p b words i r in Right (o ∷ outs) (o ∷ later) (ofFed r o ++ fed) memory (runFrom p b (fedAs r ++ cs))
+      → let o = due p b words i r in Right (o ∷ outs) (o ∷ later) (map (λ call. o) (fedAs r) ++ fed) memory (runFrom p b (fedAs r ++ cs))
   then b i (feeds call other) cs g =
       record {
         answered = ap (λ rest. due p b words i (feeds call other) ∷ rest) (g .answered);
@@ -153,7 +153,7 @@ module _ (p : Plan) (words : List ℕ) where
       let d = does b k i (l .0) in
       let later = follow is (runFrom p b (fedAs r) .book) (keeps b k r) (subst (λ (o : Outcome Answer Lent). IsList (o .memory .state) is) d (l .1)) in
       subst (λ (o : Outcome Answer Lent). Right (beside o ∷ outcomes (o .memory .state) is) (expected p b words (i ∷ is))
-      (ofFed r (beside o) ++ fedOutcomes p (o .memory .state) is) (memoryAfter (o .memory .state) is) (runFrom p b (fed p (i ∷ is))))
+      (map (λ call. beside o) (fedAs r) ++ fedOutcomes p (o .memory .state) is) (memoryAfter (o .memory .state) is) (runFrom p b (fed p (i ∷ is))))
       (sym d) (then b i r (fed p is) later)
 
 -- for every plan file that reset accepts, every state memory of at least its size and every list of calls

@@ -44,7 +44,7 @@ pub record Item : Type 0 where
   pub asked : Asked
   pub lentWords : ℕ
 
--- it is lent the first words of the state memory; the others stay
+-- it is lent the first words of the state memory, or all where there are no more; the others stay
 abbrev pub onMemory : (memory : List ℕ) → Item → Outcome Answer Lent
 onMemory memory i =
     let o : Outcome Answer Lent = onWords (i .asked) (take (i .lentWords) memory) in
@@ -55,8 +55,8 @@ abbrev pub memoryAfter : (memory : List ℕ) → List Item → List ℕ
 memoryAfter memory [] = memory
 memoryAfter memory (i ∷ is) = memoryAfter ((onMemory memory i) .memory .state) is
 
--- a call's role in a list. It is fed to the book as this call; or it comes between, unfed, with an outcome that plan and book tell;
--- or it is a reset in between. What is lent to it beside the state memory is its other memory
+-- a call's role in a list: it is fed to the book as this call; or it comes between, unfed, and plan and book tell its outcome; or it is
+-- a reset. The other memory is what is lent to it beside the state memory
 pub data Role : Type 0 where
   feeds : Call → (other : List ℕ) → Role
   between : (Plan → Book → (other : List ℕ) → Outcome Answer (List ℕ)) → (other : List ℕ) → Role
@@ -68,7 +68,7 @@ role (step delivery) = feeds (BookCalls.step (length delivery)) delivery
 role (write notes target) = between (λ p b. bytesOn (planBytes notes p)) target
 role (reset file) = resets
 
--- a call refused with 8 for being lent too little of the state memory comes between
+-- a call on the state that is lent too little of it comes between, refused with 8 and with all as it was
 abbrev pub tooLittle : Role → Role
 tooLittle (feeds call other) = between (λ p b. refused 8) other
 tooLittle (between tells other) = between (λ p b. refused 8) other
@@ -77,7 +77,7 @@ tooLittle resets = resets
 abbrev pub roleIn : Plan → Item → Role
 roleIn p i = cond (ltb (i .lentWords) (planSize p)) (tooLittle (role (i .asked))) (role (i .asked))
 
--- a list ends before the next accepted reset: the one condition on it
+-- the one condition on a list: it ends before the next accepted reset
 abbrev pub MayCome : Role → Answer → Type 0
 MayCome (feeds call other) answer = Unit {0}
 MayCome (between tells other) answer = Unit {0}
@@ -110,7 +110,8 @@ outcomes memory (i ∷ is) = beside (onMemory memory i) ∷ outcomes ((onMemory 
 abbrev pub bookMemory : Plan → Book → (words : List ℕ) → List ℕ
 bookMemory p b words = stateWords (bookState p b) ++ drop (planSize p) words
 
--- what the book has for a call: a fed one's answer, and its deliveries' words in front of the other memory
+-- what the book has for a call. A fed one: its answer, and the words delivered in front of the other memory, whose rest is as lent.
+-- A reset: what it answers on the book's words
 abbrev pub due : Plan → Book → (words : List ℕ) → Item → Role → Outcome Answer (List ℕ)
 due p b words i (feeds call other) = outcome ((feed p b call) .reply) (over (wordsOf ((feed p b call) .delivered)) other)
 due p b words i (between tells other) = tells p b other
@@ -121,14 +122,10 @@ expected p b words [] = []
 expected p b words (i ∷ is) = due p b words i (roleIn p i) ∷ expected p ((runFrom p b (fedAs (roleIn p i))) .book) words is
 
 -- the outcomes of the fed calls, in order
-abbrev pub ofFed : Role → Outcome Answer (List ℕ) → List (Outcome Answer (List ℕ))
-ofFed (feeds call other) o = o ∷ []
-ofFed (between tells other) o = []
-ofFed resets o = []
-
 abbrev pub fedOutcomes : Plan → (memory : List ℕ) → List Item → List (Outcome Answer (List ℕ))
 fedOutcomes p memory [] = []
-fedOutcomes p memory (i ∷ is) = ofFed (roleIn p i) (beside (onMemory memory i)) ++ fedOutcomes p ((onMemory memory i) .memory .state) is
+fedOutcomes p memory (i ∷ is) =
+    map (λ call. beside (onMemory memory i)) (fedAs (roleIn p i)) ++ fedOutcomes p ((onMemory memory i) .memory .state) is
 
 -- five words for each exit that a call answers
 abbrev pub wordCount : Answer → ℕ
