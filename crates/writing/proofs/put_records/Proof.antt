@@ -1,4 +1,5 @@
 -- `put_records`: a run of stores that grows by a record in each turn.
+use mathlib.Core.List.{List}
 use mathlib.Core.Path.{_≡_, refl, _∙_}
 use Prim.Native.Nat.{ℕ, _-_, _≤_, _<_}
 use native.Mathlib.Omega.{arith}
@@ -46,7 +47,7 @@ loop-again c =
     let turn = put .before .before .before .before .before in
     let l = turn .loop in
     let a = turn .before .before .before .args in
-    let bytes = λ (f : ℕ). recordBytes (flowIn (a .state .now) (flowPlace f)) in
+    let bytes : ℕ → List ℕ = λ f. recordBytes (flowIn (a .state .now) (flowPlace f)) in
     let more = sets-more recordSize (l .f) bytes (λ i. record-length _) (a .target .now) (l .target) (a .start) (l .inv .1 .1) in (
       omega arith,
       (
