@@ -25,11 +25,11 @@ use Rattle.state.proofs.View.{view-sized}
 use Rattle.state.proofs.Holds.{HoldsState, hold-same, hold-over, tally-written, clock-written, registers-written}
 use Rattle.state.proofs.Again.{state-again}
 use Rattle.cycle.specs.Offer.{offerState}
-use Rattle.cycle.specs.Step.{eastward, nextTally, nextCell, stepState}
+use Rattle.cycle.specs.Step.{nextTally, nextCell, stepState}
 use Rattle.entry.specs.Entrants.{tallied}
-use Rattle.entry.proofs.Tally.{talliesAfter, counted, turned}
-use Rattle.routing.specs.Walk.{gridIn, registersIn, reaches, pushed, pushedRow, pushedAll}
-use Rattle.routing.proofs.Push.{pushAll, pushed-cell, length-pushed}
+use Rattle.entry.proofs.Tally.{counted, turned}
+use Rattle.routing.specs.Walk.{registersIn, pushedAll}
+use Rattle.routing.proofs.Push.{pushed-cell, length-pushed}
 use Rattle.engine.specs.Next.{nextWords}
 
 module _ (w : List ℕ) (facts : StateFacts w) where
@@ -58,27 +58,23 @@ module _ (w : List ℕ) (facts : StateFacts w) where
 
   -- a step: the next tallies, the next clock, and the registers that the walk leaves in l
   module _ (l : List ℕ) (room : registersIn w ≤ length l) where
-    abbrev walked : List ℕ
-    walked = pushAll (gridIn w) (eastward s) (reaches s) l
-
     abbrev registers : List ℕ
-    registers = take (registersIn w) walked
+    registers = take (registersIn w) (pushedAll w l)
 
-    enough : registersIn w ≤ length walked
-    enough = rw (length-pushed (gridIn w) (eastward s) (reaches s) l) room
+    enough : registersIn w ≤ length (pushedAll w l)
+    enough = rw (length-pushed w l) room
 
     registers-length : length registers ≡ registersIn w
-    registers-length = length-take-le (registersIn w) walked enough
+    registers-length = length-take-le (registersIn w) (pushedAll w l) enough
 
     next-cell : (x y : ℕ) → x < sxIn w → y < syIn w → Stands 0 registers (routerSize * cellIndex (sxIn w) x y) (cellWords (nextCell s x y))
-    unfolding nextCell stateOf planIn
     next-cell x y h k =
-        stands-take 0 walked (registersIn w) _ _ enough (omega (arith, cell-below (sxIn w) (syIn w) x y h k, length-cell (nextCell s x y)))
-        (pushed-cell (gridIn w) (eastward s) (reaches s) l room x y h k)
+        stands-take 0 (pushedAll w l) (registersIn w) _ _ enough (omega (arith, cell-below (sxIn w) (syIn w) x y h k, length-cell (nextCell s x y)))
+        (pushed-cell w l room x y h k)
 
     written : nextWords w (pushedAll w l)
         ≡ sets (set (turns (countIn w) (tallied w) w) clockPlace (clockIn w + 1)) (flowPlace (length (s .plan .flows))) registers
-    unfolding nextWords pushedAll pushedRow pushed
+    unfolding nextWords
     written = rw (counted w facts)
 
     step-holds : HoldsState (stepState s) (drop (planSize ((stepState s) .plan)) w) (nextWords w (pushedAll w l))

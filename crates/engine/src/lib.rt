@@ -11,12 +11,13 @@ ghost use Rattle.state.specs.Forms.{stateNumber};
 ghost use Rattle.state.specs.Outcome.{outcome, lent, over};
 ghost use Rattle.state.specs.State.{tallyAt};
 ghost use Rattle.flow.specs.Limits.{lastClock, exitSize, offerNumber, stepNumber};
+ghost use Rattle.router.specs.Delivery.{wordsOf};
 ghost use Rattle.state.proofs.Forms.{StateFacts};
 ghost use Rattle.entry.specs.Entrants.{Entrants};
 ghost use Rattle.routing.specs.Walk.{registersIn, pushedAll};
 ghost use Rattle.engine.specs.Next.{Room, nextWords};
-ghost use Rattle.cycle.specs.Step.{exits, stepState, stepDelivers};
-ghost use Rattle.cycle.specs.Calls.{exitCount, offerOn, stepOn};
+ghost use Rattle.cycle.specs.Step.{stepState, deliveries};
+ghost use Rattle.cycle.specs.Calls.{offerOn, stepOn};
 ghost use Rattle.cycle.specs.Offer.{offerState};
 
 // Copies n words to a place.
@@ -41,8 +42,8 @@ fn find_next(
     requires { ⌜ Entrants (stateOf (now state)) 0 (now entrants) ⌝ }
     ensures { λ _. ⌜ Entrants (stateOf (now (state .entry))) (countIn (now (state .entry))) (now (entrants .exit)) ⌝ }
     ensures { λ _. ⌜ now (registers .exit) ≡ pushedAll (now (state .entry)) (now (registers .entry)) ⌝ }
-    ensures { λ r. ⌜ r ≡ exitCount (stateOf (now (state .entry))) ⌝ }
-    ensures { λ _. ⌜ now (delivery .exit) ≡ sets (now (delivery .entry)) 0 (stepDelivers (stateOf (now (state .entry)))) ⌝ }
+    ensures { λ r. ⌜ r ≡ length (deliveries (stateOf (now (state .entry)))) ⌝ }
+    ensures { λ _. ⌜ now (delivery .exit) ≡ sets (now (delivery .entry)) 0 (wordsOf (deliveries (stateOf (now (state .entry))))) ⌝ }
 {
     entry::find_entrants(state, entrants);
     routing::route_all(state, entrants, registers, delivery)
@@ -80,8 +81,8 @@ fn advance_in(
     requires { ⌜ Room (now state) (now registers) (now delivery) ⌝ }
     requires { ⌜ Entrants (stateOf (now state)) 0 (now entrants) ⌝ }
     ensures { λ _. ⌜ now (state .exit) ≡ over (stateWords (stepState (stateOf (now (state .entry))))) (now (state .entry)) ⌝ }
-    ensures { λ r. ⌜ r ≡ exitCount (stateOf (now (state .entry))) ⌝ }
-    ensures { λ _. ⌜ now (delivery .exit) ≡ over (stepDelivers (stateOf (now (state .entry)))) (now (delivery .entry)) ⌝ }
+    ensures { λ r. ⌜ r ≡ length (deliveries (stateOf (now (state .entry)))) ⌝ }
+    ensures { λ _. ⌜ now (delivery .exit) ≡ over (wordsOf (deliveries (stateOf (now (state .entry))))) (now (delivery .entry)) ⌝ }
 {
     let exits = find_next(state, entrants, registers, delivery);
     store_next(state, entrants, registers);
@@ -94,8 +95,8 @@ fn advance(state: &mut [u32], delivery: &mut [u32]) -> u32
     requires { ⌜ clockIn (now state) < lastClock ⌝ }
     requires { ⌜ exitSize * (sxIn (now state) * syIn (now state)) ≤ length (now delivery) ⌝ }
     ensures { λ _. ⌜ now (state .exit) ≡ over (stateWords (stepState (stateOf (now (state .entry))))) (now (state .entry)) ⌝ }
-    ensures { λ r. ⌜ r ≡ exitCount (stateOf (now (state .entry))) ⌝ }
-    ensures { λ _. ⌜ now (delivery .exit) ≡ over (stepDelivers (stateOf (now (state .entry)))) (now (delivery .entry)) ⌝ }
+    ensures { λ r. ⌜ r ≡ length (deliveries (stateOf (now (state .entry)))) ⌝ }
+    ensures { λ _. ⌜ now (delivery .exit) ≡ over (wordsOf (deliveries (stateOf (now (state .entry))))) (now (delivery .entry)) ⌝ }
 {
     let routers = state[state::SX] * state[state::SY];
     if routers <= 16 {

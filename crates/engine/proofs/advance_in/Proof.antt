@@ -3,9 +3,10 @@ use mathlib.Core.Path.{_∙_}
 use borrow.Author.Needs.{needs}
 use native.Mathlib.Nat.{le-trans}
 use native.Mathlib.Omega.{arith}
+use Rattle.router.specs.Delivery.{wordsOf}
 use Rattle.state.specs.Read.{stateOf}
 use Rattle.state.proofs.Over.{over-sets}
-use Rattle.cycle.specs.Step.{stepDelivers}
+use Rattle.cycle.specs.Step.{deliveries}
 use Rattle.routing.proofs.Exits.{delivers-fit}
 use Rattle.engine.proofs.Next.{next-over}
 use Rattle.engine.proofs.advance_in.Statement.{statement}
@@ -34,7 +35,7 @@ returns c =
       stored .store-next .ensures ∙ rw (all .1 .0) (next-over w (start .pre .0) _ (fed .registers-fit)),
       (
         all .1 .1 .0,
-        all .1 .1 .1 ∙ over-sets (stepDelivers (stateOf w)) (start .args .delivery .now) (le-trans (delivers-fit w) (fed .delivery-fits)),
+        all .1 .1 .1 ∙ over-sets (wordsOf (deliveries (stateOf w))) (start .args .delivery .now) (le-trans (delivers-fit w) (fed .delivery-fits)),
       ),
     )
 

@@ -3,14 +3,14 @@ use mathlib.Core.Path.{_≡_, refl, sym, _∙_}
 use mathlib.Core.Bool.{cond}
 use mathlib.Core.List.{List}
 use mathlib.Core.Logic.{_≢_}
-use Prim.Native.Nat.{ℕ, _*_, _≤_, _<_}
+use Prim.Native.Nat.{ℕ, _+_, _*_, _≤_, _<_}
 use borrow.Author.Needs.{needs}
 use borrow.Author.Tests.{ltb-false, eqb-false}
 use native.Mathlib.Omega.{arith}
 use lib.Dec.{ltb, eqb}
 use lib.ListN.{length}
 use Rattle.laws.proofs.Cases.{passed}
-use Rattle.flow.specs.Limits.{lastClock, stepNumber}
+use Rattle.flow.specs.Limits.{lastClock, exitSize, stepNumber}
 use Rattle.state.specs.Read.{sxIn, syIn, clockIn, planIn, stateOf}
 use Rattle.state.specs.Forms.{stateNumber}
 use Rattle.state.proofs.Forms.{state-facts}
@@ -20,11 +20,11 @@ use Rattle.engine.proofs.step.Statement.{statement}
 use Rattle.engine.proofs.step.Tie as tie
 
 -- what 10 and 11 leave: room for every router's exit, and a clock that can go on
-room : (w delivery : List ℕ) → stepNumber ((stateOf w) .plan) (length delivery) ((stateOf w) .clock) ≡ 0 → clockIn w < 4294967296
-    → (clockIn w < 4294967295) × (5 * (sxIn w * syIn w) ≤ length delivery)
+room : (w delivery : List ℕ) → stepNumber ((stateOf w) .plan) (length delivery) ((stateOf w) .clock) ≡ 0 → clockIn w < lastClock + 1
+    → (clockIn w < lastClock) × (exitSize * (sxIn w * syIn w) ≤ length delivery)
 unfolding stepNumber stateOf planIn
 room w delivery e fits =
-    let first = passed (ltb (length delivery) (5 * (sxIn w * syIn w))) 9 (cond (eqb (clockIn w) lastClock) 11 0) e in
+    let first = passed (ltb (length delivery) (exitSize * (sxIn w * syIn w))) 9 (cond (eqb (clockIn w) lastClock) 11 0) e in
     let other : clockIn w ≢ lastClock = eqb-false (clockIn w) lastClock (passed (eqb (clockIn w) lastClock) 10 0 (first .1) .0) in
     (omega arith, ltb-false _ _ (first .0))
 
@@ -53,7 +53,7 @@ returns-2 c =
 -- the step can run
 free : (c : tie.Else2) → let first = c .before .before .before .before in
     let a = first .before .before .before .before .before .args in
-    (clockIn (a .state .now) < 4294967295) × (5 * (sxIn (a .state .now) * syIn (a .state .now)) ≤ length (a .delivery .now))
+    (clockIn (a .state .now) < lastClock) × (exitSize * (sxIn (a .state .now) * syIn (a .state .now)) ≤ length (a .delivery .now))
 free c =
     let first = c .before .before .before .before in
     let known = first .before .before .before .before in
