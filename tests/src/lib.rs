@@ -1,6 +1,7 @@
 //! A second simulator of the torus engine and a second reckoning of its bounds, written from
 //! 01's text by the packet book's lines; and the comparison of another engine with it.
 
+#[cfg(any(feature = "bounds", feature = "engine"))]
 pub mod archive;
 pub mod book;
 pub mod calls;
