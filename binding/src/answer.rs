@@ -29,6 +29,7 @@ pub enum Answer {
 
 impl Answer {
     /// The answer that a call other than the window's returned: its value, or number × 2^32 + place.
+    #[inline]
     pub fn of(returned: u64) -> Answer {
         let (number, low) = ((returned >> 32) as u32, returned as u32);
         match number {

@@ -37,6 +37,7 @@ pub struct Delivery {
 
 impl Delivery {
     /// The flight: exit − entry + 2 cycles.
+    #[inline]
     pub fn flight(&self) -> u32 {
         self.exit - self.entry + 2
     }
@@ -99,11 +100,13 @@ impl State {
     }
 
     /// Offers one packet of a flow, before the step of this cycle. Refusals 12 and 13.
+    #[inline]
     pub fn offer(&mut self, flow: u32) -> Answer {
         Answer::of(calls::offer(&mut self.words, flow))
     }
 
     /// One cycle: the packets that leave, routers by row, then column. Refusal 11.
+    #[inline]
     pub fn step(&mut self) -> Result<impl ExactSizeIterator<Item = Delivery> + '_, Refusal> {
         let exits = Answer::of(calls::step(&mut self.words, &mut self.delivery)).done()?;
         let words = &self.delivery[..EXIT_WORDS * exits as usize];
@@ -141,6 +144,7 @@ impl State {
     }
 
     /// The cycle of the next step.
+    #[inline]
     pub fn clock(&self) -> u32 {
         self.words[3]
     }
@@ -152,15 +156,18 @@ impl State {
     }
 
     /// How many packets of a flow have entered.
+    #[inline]
     pub fn entered(&self, flow: usize) -> u32 {
         self.of_flow(flow, 8)
     }
 
     /// How many packets of a flow wait at its source.
+    #[inline]
     pub fn waiting(&self, flow: usize) -> u32 {
         self.of_flow(flow, 9)
     }
 
+    #[inline]
     fn of_flow(&self, flow: usize, at: usize) -> u32 {
         self.words[HEAD_WORDS + FLOW_WORDS * flow + at]
     }

@@ -6,6 +6,7 @@ pub mod archive;
 pub mod book;
 pub mod calls;
 pub mod compare;
+pub mod desk;
 pub mod host;
 pub mod plan;
 pub mod promises;

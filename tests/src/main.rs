@@ -1,4 +1,4 @@
-//! Compares the archive, or the listing program, with the second simulator.
+//! Compares the archive, or the listing or desk program, with the second simulator.
 
 use second::compare::Tally;
 use second::compare::parts::Extent;
@@ -6,7 +6,7 @@ use std::process::exit;
 use std::time::{SystemTime, UNIX_EPOCH};
 
 const USAGE: &str = "usage: second bounds|engine [--seconds N] [--seed N]
-       second listing PROGRAM [--seconds N] [--seed N]
+       second listing|desk PROGRAM [--seconds N] [--seed N]
 Without --seconds: the gate's rounds, with the gate's seed.
 The parts bounds and engine are compared if built with --features bounds, engine.";
 
@@ -24,6 +24,7 @@ fn main() {
         ["bounds", ..] => bounds(seed, extent),
         ["engine", ..] => engine(seed, extent),
         ["listing", program, ..] => second::compare::listing::run(program, seed, extent),
+        ["desk", program, ..] => second::desk::run(program, seed, extent),
         _ => usage(),
     };
     for ((call, number), count) in &tally.answers {
