@@ -2,6 +2,8 @@
 
 #[cfg_attr(not(all(feature = "bounds", feature = "engine")), allow(dead_code))]
 mod calls;
+#[cfg(feature = "engine")]
+mod desk;
 mod listing;
 mod loads;
 mod plain;
@@ -13,6 +15,7 @@ use std::process::exit;
 
 const USAGE: &str =
     "usage: bench bounds|engine          times the archive's calls (--features bounds, engine)
+       bench desk PROGRAM           times a million offers through the desk (--features engine)
        bench listing PROGRAM        times the listing program
        bench agree                  compares plain Rust with the second simulator";
 
@@ -30,6 +33,8 @@ fn main() {
             times::print_header();
             calls::engine(&second::archive::Archive);
         }
+        #[cfg(feature = "engine")]
+        ["desk", program] => desk::time(program, &second::archive::Archive),
         ["listing", program] => listing::time(program),
         ["plain-listing"] => listing::plain(),
         ["agree"] => agree(),
