@@ -1,7 +1,6 @@
 //! A stream of offers: lines `CYCLE FLOW`, cycles never going back. One buffer of it is kept.
 
 use crate::bytes::{decimal, fields, number, quoted};
-use crate::input::Input;
 use hrt::limits::LAST_CLOCK;
 use std::io::{self, ErrorKind, Read};
 
@@ -39,12 +38,6 @@ pub struct Offers<R> {
     ended: bool,
     line: u64,
     cycle: u32,
-}
-
-impl Offers<std::fs::File> {
-    pub fn new(input: Input) -> Offers<std::fs::File> {
-        Offers::of(input.name, input.file)
-    }
 }
 
 impl<R: Read> Offers<R> {
@@ -140,5 +133,65 @@ fn offer(line: &[u8]) -> Result<Option<Offer>, String> {
             Ok(Some(Offer { cycle, flow }))
         }
         _ => Err(format!("what is '{}'? a line is CYCLE FLOW, as 120 3", quoted(line))),
+    }
+}
+
+#[cfg(test)]
+mod tests {
+    use super::*;
+
+    /// Gives a byte at a time, with interrupts in between.
+    struct Slow<'a>(&'a [u8], bool);
+
+    impl Read for Slow<'_> {
+        fn read(&mut self, buffer: &mut [u8]) -> io::Result<usize> {
+            self.1 = !self.1;
+            if self.1 {
+                return Err(ErrorKind::Interrupted.into());
+            }
+            self.0.take(1).read(buffer).inspect(|&length| self.0 = &self.0[length..])
+        }
+    }
+
+    fn all(input: impl Read) -> Vec<Next> {
+        let mut offers = Offers::of("offers".to_string(), input);
+        let mut found = Vec::new();
+        loop {
+            match offers.next() {
+                Next::Later => offers.read_on().unwrap(),
+                Next::Offer(offer) => found.push(Next::Offer(offer)),
+                last => {
+                    found.push(last);
+                    return found;
+                }
+            }
+        }
+    }
+
+    #[test]
+    fn a_stream_is_the_same_in_any_pieces() {
+        for text in [
+            "",
+            "\n",
+            "0 0",
+            "0 0\r\n# x\n 1\t2 # y\n\n4294967294 007\n",
+            "0 0\n1 1 1\n2 2",
+            "9 0\n8 0\n",
+        ] {
+            assert_eq!(all(text.as_bytes()), all(Slow(text.as_bytes(), false)), "{text}");
+        }
+        let offers = [(0, 0), (1, 2), (4294967294, 7)]
+            .map(|(cycle, flow)| Next::Offer(Offer { cycle, flow }));
+        let found = all("0 0\r\n# x\n 1\t2 # y\n\n4294967294 007\n".as_bytes());
+        assert_eq!(found, offers.into_iter().chain([Next::End]).collect::<Vec<_>>());
+    }
+
+    #[test]
+    fn no_line_is_kept_that_is_too_long() {
+        let text = "#".repeat(BUFFER - 1) + "\n0 0\n" + &"#".repeat(BUFFER + 1);
+        let found = all(text.as_bytes());
+        assert_eq!(found.len(), 2);
+        let wrong = "offers:3: the line is too long; a line is CYCLE FLOW".to_string();
+        assert_eq!(found[1], Next::Fault(wrong));
     }
 }

@@ -24,7 +24,7 @@ pub struct Request {
 
 /// Why a run ends.
 #[derive(Debug, PartialEq, Eq)]
-pub enum End {
+enum End {
     /// The stream has ended and everything has left.
     Left,
     /// The cycle that was asked for.
@@ -52,7 +52,15 @@ pub fn run(request: Request) -> Result<(), Ending> {
         eprintln!("offers are read from here: a line CYCLE FLOW each, and ctrl-D at the end");
     }
     signals::note_interrupts();
-    let mut run = Run::new(&plan, Offers::new(offers), &request).map_err(refused_plan)?;
+    let state = plan.reset().map_err(refused_plan)?;
+    let tallies = tallies(&plan, &state).map_err(refused_plan)?;
+    let exits = !request.summary;
+    let mut run = Run {
+        cycles: request.cycles,
+        output: Output::new(exits),
+        progress: Progress::new(exits),
+        ..Run::new(state, tallies, Offers::of(offers.name, offers.file))
+    };
     let end = run.to_its_end().map_err(cant_print)?;
     run.progress.end();
     let end = run.last_checks(end);
@@ -98,7 +106,7 @@ fn ending(end: End) -> Result<(), Ending> {
 }
 
 /// A run under way.
-pub struct Run<R> {
+struct Run<R> {
     state: State,
     tallies: Vec<Tally>,
     offers: Offers<R>,
@@ -118,22 +126,20 @@ pub struct Run<R> {
 const WATCH: u32 = 1 << 10;
 
 impl<R: Read> Run<R> {
-    pub fn new(plan: &Plan, offers: Offers<R>, request: &Request) -> Result<Run<R>, Refusal> {
-        let state = plan.reset()?;
-        let exits = !request.summary;
-        Ok(Run {
-            tallies: tallies(plan, &state)?,
+    fn new(state: State, tallies: Vec<Tally>, offers: Offers<R>) -> Run<R> {
+        Run {
             state,
+            tallies,
             offers,
             next: None,
             ended: false,
-            cycles: request.cycles,
+            cycles: None,
             offered: 0,
             left: 0,
             here: 0,
-            output: Output::new(exits),
-            progress: Progress::new(exits),
-        })
+            output: Output::new(false),
+            progress: Progress::new(false),
+        }
     }
 
     /// Offers and steps until there is nothing more to do.
@@ -245,11 +251,30 @@ impl<R: Read> Run<R> {
         let clock = self.state.clock();
         self.progress.cycle(clock, self.offered, self.left);
         if clock % WATCH == 0 {
-            let first =
-                |(flow, tally): (usize, &Tally)| tally.check_first(clock, self.state.waiting(flow));
-            return Ok(self.tallies.iter().enumerate().try_for_each(first).err().map(End::Broken));
+            return Ok(self.watch().err().map(End::Broken));
         }
         Ok(None)
+    }
+
+    /// No packet is missing, none is in flight past its bound, and none that enters next waits past
+    /// it: so a run that goes on comes to an end.
+    fn watch(&self) -> Result<(), Broken> {
+        let Run { state, tallies, .. } = self;
+        let clock = state.clock();
+        let mut here = 0;
+        for packet in state.packets() {
+            tallies[packet.flow as usize].check_flight(&packet, clock)?;
+            here += 1;
+        }
+        for (flow, tally) in tallies.iter().enumerate() {
+            let waiting = state.waiting(flow);
+            tally.check_first(clock, waiting)?;
+            here += u64::from(waiting);
+        }
+        match here == self.here {
+            true => Ok(()),
+            false => Err(format!("{here} packets are waiting or in flight, not {}", self.here)),
+        }
     }
 
     /// The bounds of the packets that are in flight or waiting at the end.
@@ -264,7 +289,7 @@ impl<R: Read> Run<R> {
             tally.check_waiting(state.clock(), state.waiting(flow))
         };
         let checked = flying.and_then(|()| tallies.iter().enumerate().try_for_each(waiting));
-        checked.err().map_or(end, End::Broken)
+        checked.and_then(|()| self.watch()).err().map_or(end, End::Broken)
     }
 }
 
@@ -280,4 +305,75 @@ fn tallies(plan: &Plan, state: &State) -> Result<Vec<Tally>, Refusal> {
         Ok(Tally::new(flow as u32, state.flow(flow).period, window, flight_bound))
     };
     (0..state.flows()).map(tally).collect()
+}
+
+#[cfg(test)]
+mod tests {
+    use super::*;
+    use hrt::limits::LAST_CLOCK;
+    use hrt::Flow;
+
+    /// A run of one flow, (0,0) to (3,3) on 4 by 4, from this clock on.
+    fn run_from(clock: u32, offers: &'static str) -> Run<&'static [u8]> {
+        let flow = Flow { xs: 0, ys: 0, xd: 3, yd: 3, period: 10, burst: 1 };
+        let fresh = State::fresh(4, 4, &[flow]).unwrap();
+        let plan = Plan::read(fresh.write(b"").unwrap()).unwrap();
+        let tallies = tallies(&plan, &fresh).unwrap();
+        let mut words = fresh.words().to_vec();
+        words[3] = clock;
+        let state = State::of_words(words).unwrap();
+        Run::new(state, tallies, Offers::of("offers".to_string(), offers.as_bytes()))
+    }
+
+    #[test]
+    fn the_clock_ends_with_refusal_11() {
+        let mut run = run_from(LAST_CLOCK - 3, "4294967292 0\n4294967294 0");
+        let end = run.to_its_end().unwrap();
+        assert_eq!(end, End::Refused(Refusal { number: 11, place: 0 }));
+        assert_eq!((run.state.clock(), run.offered, run.left, run.here), (LAST_CLOCK, 2, 0, 2));
+        let ending = ending(run.last_checks(end)).unwrap_err();
+        assert_eq!(ending.stop, Stop::Failed);
+        assert_eq!(ending.messages, ["hrt: step: refused 11 0; ./hrt explain 11 says why"]);
+    }
+
+    #[test]
+    fn the_last_cycle_is_run() {
+        let mut run = run_from(LAST_CLOCK - 7, "4294967288 0");
+        assert_eq!(run.to_its_end().unwrap(), End::Left);
+        assert_eq!((run.state.clock(), run.left), (LAST_CLOCK, 1));
+    }
+
+    #[test]
+    fn a_broken_bound_is_loud() {
+        let mut run = run_from(0, "0 0");
+        run.tallies[0] = Tally::new(0, 10, Some(1), 7);
+        let end = run.to_its_end().unwrap();
+        assert_eq!(end, End::Broken("packet 1 of flow 0: flight 8, bound 7".to_string()));
+        let ending = ending(end).unwrap_err();
+        assert_eq!(ending.stop, Stop::Broken);
+        assert!(ending.messages[0].starts_with("hrt: A BOUND IS BROKEN: packet 1 of flow 0"));
+    }
+
+    #[test]
+    fn a_missing_packet_is_told() {
+        let mut run = run_from(0, "0 0\n9 0");
+        run.cycles = Some(3);
+        assert_eq!(run.to_its_end().unwrap(), End::Cycles);
+        assert_eq!(run.watch(), Ok(()));
+        run.here += 1;
+        let broken = "1 packets are waiting or in flight, not 2".to_string();
+        assert_eq!(run.last_checks(End::Cycles), End::Broken(broken));
+    }
+
+    #[test]
+    fn a_packet_that_waits_past_its_bound_is_told() {
+        // Of two packets at once the second waits for its token, 10 cycles; the bound is made 3.
+        let mut run = run_from(0, "0 0\n0 0");
+        run.tallies[0] = Tally::new(0, 1, Some(2), 20);
+        run.cycles = Some(6);
+        let end = run.to_its_end().unwrap();
+        assert_eq!(end, End::Cycles);
+        let broken = "packet 2 of flow 0: wait 6, bound 3".to_string();
+        assert_eq!(run.last_checks(end), End::Broken(broken));
+    }
 }

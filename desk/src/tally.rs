@@ -94,6 +94,15 @@ impl Tally {
         self.count_wait(packet.serial, accepted, packet.entry)
     }
 
+    /// A packet in flight that hasn't left before this cycle can still keep its flight bound.
+    pub fn check_flight(&self, packet: &Packet, clock: u32) -> Result<(), Broken> {
+        let least = u64::from(clock - packet.entry) + 2;
+        match least > self.flight_bound.into() {
+            true => Err(self.broken(packet.serial, "flight", least, self.flight_bound.into())),
+            false => Ok(()),
+        }
+    }
+
     /// No packet of those waiting has waited past its bound; `waiting` of them are the last.
     pub fn check_waiting(&self, clock: u32, waiting: u32) -> Result<(), Broken> {
         let entered = self.packets.len() - waiting as usize;
@@ -162,5 +171,68 @@ impl Tally {
 
     fn broken(&self, serial: u32, what: &str, found: u64, bound: u64) -> Broken {
         format!("packet {serial} of flow {}: {what} {found}, bound {bound}", self.flow)
+    }
+}
+
+#[cfg(test)]
+mod tests {
+    use super::*;
+
+    /// P 10 and T 2: a packet behind q others waits at most 11 × (q + 1) − 1.
+    fn tally() -> Tally {
+        Tally::new(3, 10, Some(2), 8)
+    }
+
+    fn exit(serial: u32, entry: u32, exit: u32) -> Delivery {
+        Delivery { flow: 3, serial, entry, exit, deflections: 0 }
+    }
+
+    #[test]
+    fn packets_may_leave_in_any_order() {
+        let mut tally = tally();
+        for q in 0..3 {
+            tally.accept(5, q);
+        }
+        assert_eq!(tally.leave(&exit(2, 20, 23)), Ok(5));
+        assert_eq!(tally.leave(&exit(1, 15, 21)), Ok(5));
+        assert_eq!(tally.longest_wait, Some(Wait { cycles: 15, bound: Some(21) }));
+        assert_eq!((tally.nearest, tally.longest_flight, tally.left), (Some(0), Some(8), 2));
+        assert_eq!(tally.packets.len(), 1);
+    }
+
+    #[test]
+    fn what_is_over_a_bound_is_broken() {
+        let mut tally = tally();
+        tally.accept(5, 0);
+        assert_eq!(tally.check_first(15, 1), Ok(()));
+        let broken = Err("packet 1 of flow 3: wait 11, bound 10".to_string());
+        assert_eq!(tally.check_first(16, 1), broken);
+        assert_eq!(tally.check_waiting(16, 1), broken);
+        assert_eq!(tally.leave(&exit(1, 16, 17)), broken.map(|()| 0));
+        tally.accept(5, 0);
+        let broken = Err("packet 2 of flow 3: flight 9, bound 8".to_string());
+        assert_eq!(tally.leave(&exit(2, 6, 13)), broken);
+    }
+
+    #[test]
+    fn a_flight_without_an_end_is_broken() {
+        let packet = Packet { flow: 3, serial: 1, entry: 4, deflections: 0 };
+        assert_eq!(tally().check_flight(&packet, 10), Ok(()));
+        let broken = Err("packet 1 of flow 3: flight 9, bound 8".to_string());
+        assert_eq!(tally().check_flight(&packet, 11), broken);
+    }
+
+    #[test]
+    fn packets_that_are_not_there_are_told() {
+        let mut tally = tally();
+        tally.accept(5, 0);
+        for (serial, entry) in [(0, 6), (2, 6), (1, 4)] {
+            assert!(tally.leave(&exit(serial, entry, 7)).is_err());
+        }
+        let mut tally = Tally::new(3, 10, None, 8);
+        tally.accept(5, 0);
+        tally.accept(5, 1);
+        assert!(tally.leave(&exit(2, 6, 7)).is_ok());
+        assert!(tally.leave(&exit(2, 6, 7)).is_err());
     }
 }
