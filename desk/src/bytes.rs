@@ -71,9 +71,6 @@ pub fn escaped(bytes: &[u8]) -> String {
         for character in chunk.valid().chars() {
             match character {
                 '\\' => text += "\\\\",
-                '\n' => text += "\\n",
-                '\r' => text += "\\r",
-                '\t' => text += "\\t",
                 _ if character.is_control() => {
                     let mut bytes = [0; 4];
                     push_hex(&mut text, character.encode_utf8(&mut bytes).as_bytes());
@@ -96,7 +93,7 @@ fn push_hex(text: &mut String, bytes: &[u8]) {
     }
 }
 
-/// The bytes of a note's text. A newline follows them, unless the text ends in a lone backslash.
+/// The bytes of a note's text. A newline follows them, unless the text ends in `\c`.
 pub fn unescaped(text: &[u8]) -> Result<Vec<u8>, Wrong> {
     let mut bytes = Vec::with_capacity(text.len() + 1);
     let mut rest = text;
@@ -109,7 +106,7 @@ pub fn unescaped(text: &[u8]) -> Result<Vec<u8>, Wrong> {
                 bytes.push(b'\n');
                 return Ok(bytes);
             }
-            [_] => return Ok(bytes),
+            b"\\c" => return Ok(bytes),
             _ => {}
         }
         let (byte, length) = escape(rest).ok_or_else(|| no_escape(rest))?;
@@ -122,9 +119,6 @@ pub fn unescaped(text: &[u8]) -> Result<Vec<u8>, Wrong> {
 fn escape(text: &[u8]) -> Option<(u8, usize)> {
     match text {
         [_, b'\\', ..] => Some((b'\\', 2)),
-        [_, b'n', ..] => Some((b'\n', 2)),
-        [_, b'r', ..] => Some((b'\r', 2)),
-        [_, b't', ..] => Some((b'\t', 2)),
         [_, b'x', high, low, ..] => Some((hex(*high)? << 4 | hex(*low)?, 4)),
         _ => None,
     }
@@ -135,11 +129,11 @@ fn hex(digit: u8) -> Option<u8> {
 }
 
 fn no_escape(text: &[u8]) -> Wrong {
-    let length = if text[1] == b'x' { 4 } else { 2 };
+    let length = if text.get(1) == Some(&b'x') { 4 } else { 2 };
     let shown = quoted(&text[1..length.min(text.len())]);
     format!(
-        "'\\{shown}' is no escape; a backslash is written \\\\, a byte \\x and two hexadecimal digits, \
-         and there are \\n, \\r, \\t and a \\ at the line's end"
+        "'\\{shown}' is no escape; a backslash is written \\\\, any byte \\x and two hexadecimal digits, and \\c at \
+         the line's end leaves out the newline"
     )
 }
 
@@ -190,14 +184,14 @@ mod tests {
             let text = escaped(bytes);
             let line = bytes.iter().chain(b"\n").copied().collect::<Vec<u8>>();
             assert_eq!(unescaped(text.as_bytes()), Ok(line), "{text}");
-            assert_eq!(unescaped(format!("{text}\\").as_bytes()), Ok(bytes.to_vec()), "{text}");
+            assert_eq!(unescaped(format!("{text}\\c").as_bytes()), Ok(bytes.to_vec()), "{text}");
             assert!(!text.contains(|c: char| c.is_control()) && !text.ends_with(' '), "{text}");
         }
     }
 
     #[test]
     fn wrong_escapes_are_told() {
-        for text in ["\\q", "\\x4", "\\xg0", "\\x", "\\N", "a\\ b"] {
+        for text in ["\\q", "\\x4", "\\xg0", "\\x", "\\n", "a\\ b", "C:\\new", "D:\\", "\\c "] {
             assert!(unescaped(text.as_bytes()).unwrap_err().contains("is no escape"), "{text}");
         }
     }

@@ -215,7 +215,7 @@ pub fn write(mode: &Mode) -> String {
         match note.strip_suffix(b"\n") {
             Some([]) => text += "note\n",
             Some(note) => push_line(&mut text, &format!("note {}", escaped(note))),
-            None => push_line(&mut text, &format!("note {}\\", escaped(note))),
+            None => push_line(&mut text, &format!("note {}\\c", escaped(note))),
         }
     }
     for flow in &mode.flows {

@@ -18,7 +18,7 @@ fn with(line: &str, fault: &str) -> Case {
     case(&format!("torus 4 3\nflow 0 0 1 1 10 1\n{line}\n"), &[(3, fault)])
 }
 
-const ESCAPES: &str = "a backslash is written \\\\, a byte \\x and two hexadecimal digits, and there are \\n, \\r, \\t and a \\ at the line's end";
+const ESCAPES: &str = "a backslash is written \\\\, any byte \\x and two hexadecimal digits, and \\c at the line's end leaves out the newline";
 const NO_FLOW: &str = "there is no flow; a plan has 1 to 256, each as flow XS YS XD YD P SIGMA";
 const NO_TORUS: &str = "there is no torus line; the torus is given as torus SX SY";
 
@@ -69,6 +69,8 @@ fn line_faults() -> Vec<Case> {
         with(&long, &format!("what is '{}..'? {start}", &long[..40])),
         with("\u{1b}[2J", &format!("what is '\\x1b[2J'? {start}")),
         with("note a\\q", &format!("'\\q' is no escape; {ESCAPES}")),
+        with("note C:\\new", &format!("'\\n' is no escape; {ESCAPES}")),
+        with("note D:\\", &format!("'\\' is no escape; {ESCAPES}")),
         with("note \\x4", &format!("'\\x4' is no escape; {ESCAPES}")),
         with("note \\x4g.", &format!("'\\x4g' is no escape; {ESCAPES}")),
     ]

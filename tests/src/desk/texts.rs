@@ -45,7 +45,7 @@ fn lines(random: &mut Random, plan: &Plan) -> Vec<u8> {
         b"\r",
         b"\r\n",
         b"\\",
-        b"\\n",
+        b"\\c",
         b"\\x41",
         b" ",
         b"  ",
