@@ -28,7 +28,11 @@ fn main() {
         _ => usage(),
     };
     for ((call, number), count) in &tally.answers {
-        let answer = if *number == 0 { "accepted".into() } else { format!("refused {number}") };
+        let answer = match number {
+            _ if *call == "desk" => format!("status {number}"),
+            0 => "accepted".to_string(),
+            _ => format!("refused {number}"),
+        };
         println!("{call:8} {answer:10} {count:9}");
     }
     let (part, calls, memory) = (words[0], tally.calls(), tally.words);
