@@ -4,7 +4,7 @@ use crate::bytes::{escaped, fields, is_blank, number, quoted, unescaped};
 use hrt::limits::{
     MOST_BURST, MOST_FLOWS, MOST_PERIOD, MOST_PLAN_BYTES, MOST_SIDE, RECORD_BYTES, TRAILER_BYTES,
 };
-use hrt::Flow;
+use hrt::{Flow, Plan};
 use std::fmt::Write;
 
 /// What a plan's text says.
@@ -25,7 +25,7 @@ pub struct Fault {
 
 /// The mode of a text, or all its faults by line.
 pub fn read(text: &[u8]) -> Result<Mode, Vec<Fault>> {
-    if text.ends_with(b"HRTP") && text.len() >= TRAILER_BYTES {
+    if text.len() <= MOST_PLAN_BYTES && Plan::read(text.to_vec()).is_ok() {
         let text = "this is a plan file, not a text; ./hrt show prints its text".to_string();
         return Err(vec![Fault { line: 1, text }]);
     }

@@ -3,6 +3,7 @@
 
 use super::program::{Program, write};
 use crate::compare::Tally;
+use crate::plan::{Flow, Plan};
 use std::fs;
 
 /// A text, and the faults told: line and sentence.
@@ -77,6 +78,8 @@ fn line_faults() -> Vec<Case> {
 }
 
 fn whole_faults() -> Vec<Case> {
+    let plan = Plan { sx: 1, sy: 1, flows: vec![Flow::from_numbers([0, 0, 0, 0, 10, 1])] };
+    let plan_file = String::from_utf8(plan.file(b"")).expect("small numbers are ASCII");
     let flow = "flow 0 0 0 0 10 1\n";
     let room = 65_536 - 12 - 8;
     let note = format!("note {}\n", "x".repeat(999));
@@ -119,10 +122,7 @@ fn whole_faults() -> Vec<Case> {
                 (4, "the burst SIGMA is 300; it must be 1 to 255"),
             ],
         ),
-        case(
-            "torus 1 1\nflow 0 0 0 0 10 1\nnoHRTP",
-            &[(1, "this is a plan file, not a text; ./hrt show prints its text")],
-        ),
+        case(&plan_file, &[(1, "this is a plan file, not a text; ./hrt show prints its text")]),
     ]
 }
 

@@ -102,8 +102,13 @@ fn changed(random: &mut Random, text: String) -> String {
         }
         changed += newline;
     }
-    if random.percent(30) {
+    if random.percent(20) {
+        changed += "# note HRTP";
+    } else if random.percent(30) {
         changed.truncate(changed.len() - newline.len());
+    }
+    if random.percent(10) {
+        changed.insert(0, '\u{feff}');
     }
     changed
 }
