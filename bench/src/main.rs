@@ -2,6 +2,8 @@
 
 #[cfg_attr(not(all(feature = "bounds", feature = "engine")), allow(dead_code))]
 mod calls;
+#[cfg(feature = "engine")]
+mod desk;
 mod listing;
 mod loads;
 mod plain;
@@ -14,6 +16,7 @@ use std::process::exit;
 
 const USAGE: &str =
     "usage: bench bounds|engine          times the archive's calls (--features bounds, engine)
+       bench desk PROGRAM           times a million offers through the desk (--features engine)
        bench listing PROGRAM        times the listing program
        bench agree                  compares plain Rust with the second simulator";
 
@@ -31,14 +34,18 @@ fn main() {
             times::print_header();
             calls::engine(&second::archive::Archive);
         }
+        #[cfg(feature = "engine")]
+        ["desk", program] if !program.starts_with("--") => {
+            desk::time(program, &second::archive::Archive)
+        }
         ["listing", program] if !program.starts_with("--") => listing::time(program),
         ["plain-listing"] => listing::plain(),
         ["agree"] => agree(),
         [part @ ("bounds" | "engine")] => wrong(&format!("it is built without the part {part}")),
-        ["listing"] => wrong("the part listing takes a program"),
+        [part @ ("listing" | "desk")] => wrong(&format!("the part {part} takes a program")),
         ["bounds" | "engine" | "agree", word, ..]
-        | ["listing", _, word, ..]
-        | ["listing", word] => wrong(&format!("there is no option '{word}'")),
+        | ["listing" | "desk", _, word, ..]
+        | ["listing" | "desk", word] => wrong(&format!("there is no option '{word}'")),
         [part, ..] => wrong(&format!("there is no part '{part}'")),
         [] => wrong("it takes a part"),
     }

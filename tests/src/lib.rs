@@ -1,10 +1,12 @@
 //! A second simulator of the torus engine and a second reckoning of its bounds, written from
 //! 01's text by the packet book's lines; and the comparison of another engine with it.
 
+#[cfg(any(feature = "bounds", feature = "engine"))]
 pub mod archive;
 pub mod book;
 pub mod calls;
 pub mod compare;
+pub mod desk;
 pub mod host;
 pub mod plan;
 pub mod promises;

@@ -1,4 +1,4 @@
-//! Compares the archive, or the listing program, with the second simulator.
+//! Compares the archive, or the listing or desk program, with the second simulator.
 
 use second::compare::parts::Extent;
 use second::compare::{Tally, listing};
@@ -6,7 +6,7 @@ use std::process::exit;
 use std::time::{SystemTime, UNIX_EPOCH};
 
 const USAGE: &str = "usage: second bounds|engine [--seconds N] [--seed N]
-       second listing PROGRAM [--seconds N] [--seed N]
+       second listing|desk PROGRAM [--seconds N] [--seed N]
 Without --seconds: the gate's rounds, with the gate's seed.
 The parts bounds and engine are compared if built with --features bounds, engine.";
 
@@ -17,10 +17,10 @@ fn main() {
     let words: Vec<&str> = arguments.iter().map(String::as_str).collect();
     let (part, program, options) = match words[..] {
         [part @ ("bounds" | "engine"), ref options @ ..] => (part, "", Options::read(options)),
-        ["listing", program, ref options @ ..] if !program.starts_with("--") => {
-            ("listing", program, Options::read(options))
+        [part @ ("listing" | "desk"), program, ref options @ ..] if !program.starts_with("--") => {
+            (part, program, Options::read(options))
         }
-        ["listing", ..] => wrong("the part listing takes a program"),
+        [part @ ("listing" | "desk"), ..] => wrong(&format!("the part {part} takes a program")),
         [part, ..] => wrong(&format!("there is no part '{part}'")),
         [] => wrong("it takes a part"),
     };
@@ -31,10 +31,15 @@ fn main() {
     let tally = match part {
         "bounds" => bounds(seed, extent),
         "engine" => engine(seed, extent),
+        "desk" => second::desk::run(program, seed, extent),
         _ => listing::run(|file| listing::printed(program, file), seed, extent),
     };
     for ((call, number), count) in &tally.answers {
-        let answer = if *number == 0 { "accepted".into() } else { format!("refused {number}") };
+        let answer = match number {
+            _ if *call == "desk" => format!("status {number}"),
+            0 => "accepted".to_string(),
+            _ => format!("refused {number}"),
+        };
         println!("{call:8} {answer:10} {count:9}");
     }
     let (calls, memory) = (tally.calls(), tally.words);

@@ -45,7 +45,7 @@ pub fn engine(host: &impl Engine, seed: u64, extent: Extent) -> Tally {
     tally
 }
 
-pub(super) fn rounds(
+pub(crate) fn rounds(
     part: &str,
     tally: &mut Tally,
     extent: Extent,

@@ -1,0 +1,78 @@
+//! The functions of include/hrt.h, one by one, on slices: what they return is not decoded.
+//!
+//! A slice is never null and knows its length, and a lent `&mut` overlaps nothing else, so what the
+//! header asks of its caller always holds here.
+
+mod raw {
+    extern "C" {
+        pub fn hrt_window(plan: *const u8, plan_bytes: usize, flow: u32) -> u32;
+        pub fn hrt_flight(plan: *const u8, plan_bytes: usize, flow: u32) -> u64;
+        pub fn hrt_notes(plan: *const u8, plan_bytes: usize) -> u64;
+        pub fn hrt_reset(
+            plan: *const u8,
+            plan_bytes: usize,
+            state: *mut u32,
+            state_words: usize,
+        ) -> u64;
+        pub fn hrt_offer(state: *mut u32, state_words: usize, flow: u32) -> u64;
+        pub fn hrt_step(
+            state: *mut u32,
+            state_words: usize,
+            delivery: *mut u32,
+            delivery_words: usize,
+        ) -> u64;
+        pub fn hrt_write(
+            state: *const u32,
+            state_words: usize,
+            notes: *const u8,
+            notes_bytes: usize,
+            target: *mut u8,
+            target_bytes: usize,
+        ) -> u64;
+    }
+}
+
+/// The least window T of a flow, or 65,536 + the refusal's number.
+#[inline]
+pub fn window(plan: &[u8], flow: u32) -> u32 {
+    unsafe { raw::hrt_window(plan.as_ptr(), plan.len(), flow) }
+}
+
+/// The flight bound of a flow.
+#[inline]
+pub fn flight(plan: &[u8], flow: u32) -> u64 {
+    unsafe { raw::hrt_flight(plan.as_ptr(), plan.len(), flow) }
+}
+
+/// The length of the notes, which lead the file.
+#[inline]
+pub fn notes(plan: &[u8]) -> u64 {
+    unsafe { raw::hrt_notes(plan.as_ptr(), plan.len()) }
+}
+
+/// Makes the state of a plan. Answers 0.
+#[inline]
+pub fn reset(plan: &[u8], state: &mut [u32]) -> u64 {
+    unsafe { raw::hrt_reset(plan.as_ptr(), plan.len(), state.as_mut_ptr(), state.len()) }
+}
+
+/// Offers one packet of a flow. Answers 0.
+#[inline]
+pub fn offer(state: &mut [u32], flow: u32) -> u64 {
+    unsafe { raw::hrt_offer(state.as_mut_ptr(), state.len(), flow) }
+}
+
+/// One cycle. Answers the number of exits, for each of which it delivers five words.
+#[inline]
+pub fn step(state: &mut [u32], delivery: &mut [u32]) -> u64 {
+    let (words, room) = (state.len(), delivery.len());
+    unsafe { raw::hrt_step(state.as_mut_ptr(), words, delivery.as_mut_ptr(), room) }
+}
+
+/// Writes the plan file of a state, behind the notes. Answers the file's length in bytes.
+#[inline]
+pub fn write(state: &[u32], notes: &[u8], target: &mut [u8]) -> u64 {
+    let (words, room) = (state.len(), target.len());
+    let (state, target) = (state.as_ptr(), target.as_mut_ptr());
+    unsafe { raw::hrt_write(state, words, notes.as_ptr(), notes.len(), target, room) }
+}

@@ -1,0 +1,229 @@
+//! The state of a run, in words that the host owns.
+
+use crate::limits::{
+    delivery_words, state_words, EXIT_WORDS, FLOW_WORDS, HEAD_WORDS, MOST_FLOWS, MOST_PLAN_BYTES,
+    MOST_SIDE, MOST_STATE_WORDS, RECORD_BYTES, REGISTER_WORDS, TRAILER_BYTES,
+};
+use crate::{calls, Answer, Refusal};
+
+/// A flow's six plan numbers: source and destination by column and row, period P and burst σ.
+#[derive(Clone, Copy, Debug, PartialEq, Eq)]
+pub struct Flow {
+    pub xs: u32,
+    pub ys: u32,
+    pub xd: u32,
+    pub yd: u32,
+    pub period: u32,
+    pub burst: u32,
+}
+
+impl Flow {
+    /// The numbers in the order of a plan's record.
+    pub fn numbers(&self) -> [u32; 6] {
+        [self.xs, self.ys, self.xd, self.yd, self.period, self.burst]
+    }
+}
+
+/// A packet that left.
+#[derive(Clone, Copy, Debug, PartialEq, Eq)]
+pub struct Delivery {
+    pub flow: u32,
+    /// The number of the packet among the flow's accepted offers, from 1.
+    pub serial: u32,
+    pub entry: u32,
+    pub exit: u32,
+    pub deflections: u32,
+}
+
+impl Delivery {
+    /// The flight: exit − entry + 2 cycles.
+    #[inline]
+    pub fn flight(&self) -> u32 {
+        self.exit - self.entry + 2
+    }
+}
+
+/// A packet in a link register: it has entered and hasn't left.
+#[derive(Clone, Copy, Debug, PartialEq, Eq)]
+pub struct Packet {
+    pub flow: u32,
+    pub serial: u32,
+    pub entry: u32,
+    pub deflections: u32,
+}
+
+/// A state, with room for what a step delivers.
+#[derive(Clone, Debug, PartialEq, Eq)]
+pub struct State {
+    words: Vec<u32>,
+    delivery: Vec<u32>,
+}
+
+impl State {
+    /// The state of a plan file at clock 0. Refusals 1 to 7.
+    pub fn reset(plan: &[u8]) -> Result<State, Refusal> {
+        let mut words = vec![0; MOST_STATE_WORDS];
+        Answer::of(calls::reset(plan, &mut words)).done()?;
+        Ok(State::cut(words))
+    }
+
+    /// The state at clock 0 of a torus with these flows, for [`State::write`] to make a plan file of.
+    /// Refusal 9 if a number is out of its range.
+    pub fn fresh(sx: u32, sy: u32, flows: &[Flow]) -> Result<State, Refusal> {
+        let mut words = vec![sx, sy, flows.len() as u32, 0, 0, 0, 0, 0];
+        for flow in flows {
+            words.extend(flow.numbers());
+            words.extend([flow.burst, 0, 0, 0]);
+        }
+        let registers = state_words(sx.min(MOST_SIDE), sy.min(MOST_SIDE), 0) - HEAD_WORDS;
+        words.resize(words.len() + registers, 0);
+        State::of_words(words)
+    }
+
+    /// A state that the host has kept as words. Refusals 8 and 9 if the words form no state.
+    pub fn of_words(words: Vec<u32>) -> Result<State, Refusal> {
+        let mut file = [0; TRAILER_BYTES + RECORD_BYTES * MOST_FLOWS];
+        Answer::of(calls::write(&words, &[], &mut file)).done()?;
+        Ok(State::cut(words))
+    }
+
+    /// Words that form a state, without those past its size.
+    fn cut(mut words: Vec<u32>) -> State {
+        let (sx, sy) = (words[0], words[1]);
+        words.truncate(state_words(sx, sy, words[2] as usize));
+        State { words, delivery: vec![0; delivery_words(sx, sy)] }
+    }
+
+    /// The words, as the scope document's "State memory" lays them out.
+    pub fn words(&self) -> &[u32] {
+        &self.words
+    }
+
+    /// Offers one packet of a flow, before the step of this cycle. Refusals 12 and 13.
+    #[inline]
+    pub fn offer(&mut self, flow: u32) -> Answer {
+        Answer::of(calls::offer(&mut self.words, flow))
+    }
+
+    /// One cycle: the packets that leave, routers by row, then column. Refusal 11.
+    #[inline]
+    pub fn step(&mut self) -> Result<impl ExactSizeIterator<Item = Delivery> + '_, Refusal> {
+        let exits = Answer::of(calls::step(&mut self.words, &mut self.delivery)).done()?;
+        let words = &self.delivery[..EXIT_WORDS * exits as usize];
+        Ok(words.chunks_exact(EXIT_WORDS).map(|exit| Delivery {
+            flow: exit[0],
+            serial: exit[1],
+            entry: exit[2],
+            exit: exit[3],
+            deflections: exit[4],
+        }))
+    }
+
+    /// The plan file of the state, with these notes in front. Refusal 1.
+    pub fn write(&self, notes: &[u8]) -> Result<Vec<u8>, Refusal> {
+        let length = notes.len() + RECORD_BYTES * self.flows() + TRAILER_BYTES;
+        let mut file = vec![0; length.min(MOST_PLAN_BYTES)];
+        let length = Answer::of(calls::write(&self.words, notes, &mut file)).done()?;
+        file.truncate(length as usize);
+        Ok(file)
+    }
+
+    /// The columns of the torus.
+    pub fn sx(&self) -> u32 {
+        self.words[0]
+    }
+
+    /// The rows of the torus.
+    pub fn sy(&self) -> u32 {
+        self.words[1]
+    }
+
+    /// The count of flows.
+    pub fn flows(&self) -> usize {
+        self.words[2] as usize
+    }
+
+    /// The cycle of the next step.
+    #[inline]
+    pub fn clock(&self) -> u32 {
+        self.words[3]
+    }
+
+    /// A flow's plan numbers.
+    pub fn flow(&self, flow: usize) -> Flow {
+        let [xs, ys, xd, yd, period, burst] = [0, 1, 2, 3, 4, 5].map(|at| self.of_flow(flow, at));
+        Flow { xs, ys, xd, yd, period, burst }
+    }
+
+    /// How many packets of a flow have entered.
+    #[inline]
+    pub fn entered(&self, flow: usize) -> u32 {
+        self.of_flow(flow, 8)
+    }
+
+    /// How many packets of a flow wait at its source.
+    #[inline]
+    pub fn waiting(&self, flow: usize) -> u32 {
+        self.of_flow(flow, 9)
+    }
+
+    #[inline]
+    fn of_flow(&self, flow: usize, at: usize) -> u32 {
+        self.words[HEAD_WORDS + FLOW_WORDS * flow + at]
+    }
+
+    /// The packets in flight, register by register.
+    pub fn packets(&self) -> impl Iterator<Item = Packet> + '_ {
+        let registers = &self.words[HEAD_WORDS + FLOW_WORDS * self.flows()..];
+        registers.chunks_exact(REGISTER_WORDS).filter(|register| register[0] != 0).map(|register| {
+            Packet {
+                flow: register[0] - 1,
+                serial: register[1],
+                entry: register[2],
+                deflections: register[3],
+            }
+        })
+    }
+}
+
+#[cfg(test)]
+mod tests {
+    use super::*;
+
+    const FLOW: Flow = Flow { xs: 0, ys: 0, xd: 3, yd: 3, period: 10, burst: 2 };
+
+    #[test]
+    fn fresh_words_are_those_of_a_reset() {
+        let state = State::fresh(4, 5, &[FLOW, FLOW]).unwrap();
+        assert_eq!(State::reset(&state.write(b"notes").unwrap()).unwrap(), state);
+        assert_eq!((state.sx(), state.sy(), state.flows(), state.clock()), (4, 5, 2, 0));
+        assert_eq!(state.flow(1), FLOW);
+    }
+
+    #[test]
+    fn numbers_out_of_range_form_no_state() {
+        let number = |sx, sy, flows: &[Flow]| State::fresh(sx, sy, flows).unwrap_err().number;
+        assert_eq!(number(17, 4, &[FLOW]), 9);
+        assert_eq!(number(4, u32::MAX, &[FLOW]), 9);
+        assert_eq!(number(4, 3, &[FLOW]), 9);
+        assert_eq!(number(4, 4, &[]), 9);
+        assert_eq!(number(4, 4, &[FLOW; 257]), 9);
+        assert_eq!(number(4, 4, &[Flow { period: 65_536, ..FLOW }]), 9);
+        assert_eq!(State::of_words(vec![4; 7]).unwrap_err().number, 8);
+    }
+
+    #[test]
+    fn a_state_is_kept_as_words() {
+        let mut state = State::fresh(4, 4, &[FLOW]).unwrap();
+        assert_eq!(state.offer(1), Answer::Refused(Refusal { number: 12, place: 0 }));
+        state.offer(0).done().unwrap();
+        assert_eq!((state.entered(0), state.waiting(0)), (0, 1));
+        assert_eq!(state.step().unwrap().len(), 0);
+        assert_eq!((state.entered(0), state.waiting(0)), (1, 0));
+        let packet = Packet { flow: 0, serial: 1, entry: 0, deflections: 0 };
+        assert_eq!(state.packets().collect::<Vec<_>>(), [packet]);
+        let mut kept = state.words().to_vec();
+        kept.resize(4616, 7);
+        assert_eq!(State::of_words(kept), Ok(state));
+    }
+}

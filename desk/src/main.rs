@@ -1,0 +1,35 @@
+//! The planner's desk. `./hrt` builds and calls it; `./hrt --help` says what its words do.
+
+mod bytes;
+mod ending;
+mod input;
+mod offers;
+mod output;
+mod plan;
+mod progress;
+mod replace;
+mod run;
+mod signals;
+mod tally;
+mod text;
+mod words;
+
+use ending::Ending;
+use std::process::ExitCode;
+use words::Work;
+
+fn main() -> ExitCode {
+    signals::end_on_closed_pipe();
+    match words::read(std::env::args_os().skip(1)).and_then(work) {
+        Ok(()) => ExitCode::SUCCESS,
+        Err(ending) => ending.tell(),
+    }
+}
+
+fn work(work: Work) -> Result<(), Ending> {
+    match work {
+        Work::Plan(text, plan) => plan::plan(text, plan),
+        Work::Show(plan) => plan::show(plan),
+        Work::Run(request) => run::run(request),
+    }
+}

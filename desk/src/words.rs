@@ -1,0 +1,95 @@
+//! The words that the program is called with.
+
+use crate::bytes::number;
+use crate::ending::Ending;
+use crate::run::Request;
+use hrt::limits::LAST_CLOCK;
+use std::ffi::{OsStr, OsString};
+use std::os::unix::ffi::OsStrExt;
+
+/// What is asked for.
+pub enum Work {
+    /// A text, and its plan file if that is named.
+    Plan(OsString, Option<OsString>),
+    Show(OsString),
+    Run(Request),
+}
+
+/// The words behind the first, apart.
+#[derive(Default)]
+struct Words {
+    files: Vec<OsString>,
+    cycles: Option<u32>,
+    summary: bool,
+}
+
+pub fn read(mut words: impl Iterator<Item = OsString>) -> Result<Work, Ending> {
+    let word = words.next().unwrap_or_default();
+    let word = match word.to_str() {
+        Some(word @ ("plan" | "show" | "run")) => word,
+        _ => return Err(Ending::wrong("./hrt --help says how to call it".to_string())),
+    };
+    let Words { files, cycles, summary } = apart(word, words)?;
+    let mut files = files.into_iter();
+    let work = match (word, files.next(), files.next()) {
+        ("plan", Some(text), plan) => Some(Work::Plan(text, plan)),
+        ("show", Some(plan), None) => Some(Work::Show(plan)),
+        ("run", Some(plan), offers) => {
+            let offers = offers.unwrap_or_else(|| OsString::from("-"));
+            Some(Work::Run(Request { plan, offers, cycles, summary }))
+        }
+        _ => None,
+    };
+    match work {
+        Some(work) if files.next().is_none() => Ok(work),
+        _ => Err(wrong(word, "takes", takes(word))),
+    }
+}
+
+/// The files that a word takes.
+fn takes(word: &str) -> &str {
+    match word {
+        "plan" => "a text, and a plan file to write if it isn't the text's name with .plan",
+        "show" => "one plan file",
+        _ => "a plan file, and a file of offers if they don't come on standard input",
+    }
+}
+
+fn wrong(word: &str, verb: &str, what: &str) -> Ending {
+    Ending::wrong(format!("{word} {verb} {what}; ./hrt {word} --help says more"))
+}
+
+fn apart(word: &str, mut words: impl Iterator<Item = OsString>) -> Result<Words, Ending> {
+    let mut apart = Words::default();
+    while let Some(next) = words.next() {
+        let bytes = next.as_bytes();
+        if bytes == b"--" {
+            apart.files.extend(words);
+            break;
+        }
+        match bytes {
+            b"--summary" if word == "run" => apart.summary = true,
+            b"--cycles" if word == "run" => {
+                let Some(value) = words.next() else {
+                    return Err(wrong(word, "takes", "a number behind --cycles"));
+                };
+                apart.cycles = Some(cycles(&value)?);
+            }
+            [b'-', _, ..] => match bytes.strip_prefix(b"--cycles=") {
+                Some(value) if word == "run" => {
+                    apart.cycles = Some(cycles(OsStr::from_bytes(value))?);
+                }
+                _ => {
+                    let option = format!("option '{}'", next.to_string_lossy());
+                    return Err(wrong(word, "has no", &option));
+                }
+            },
+            _ => apart.files.push(next),
+        }
+    }
+    Ok(apart)
+}
+
+fn cycles(value: &OsStr) -> Result<u32, Ending> {
+    number(value.as_bytes(), "the number of --cycles", 0, LAST_CLOCK).map_err(Ending::wrong)
+}

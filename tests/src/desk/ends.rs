@@ -1,0 +1,198 @@
+//! How the program ends: wrong words, files that can't be read or written, an interrupt, a closed
+//! pipe, and a stream that is far longer than the memory that it is given.
+
+use super::program::{Output, Program, write};
+use crate::compare::Tally;
+use std::fs;
+use std::io::{BufRead, BufReader, BufWriter, Read, Write};
+use std::process::{Command, Stdio};
+
+const MODE: &[u8] = b"torus 4 4\nflow 1 0 2 0 10 1\nflow 0 0 3 0 10 1\n";
+
+pub fn all(program: &Program, tally: &mut Tally) {
+    write(&program.file("mode.txt"), MODE);
+    assert_eq!(program.call(tally, &["plan", "mode.txt", "a mode.plan"], b"").status, 0);
+    words(program, tally);
+    files(program, tally);
+    standard_streams(program, tally);
+    interrupt(program);
+    closed_pipe(program);
+    long_stream(program);
+}
+
+/// One sentence, and the status.
+fn sentence(got: Output, status: i32, text: &str) {
+    assert_eq!((got.status, got.err), (status, format!("{text}\n")), "{text}");
+    assert_eq!(got.out, b"", "{text}");
+}
+
+fn words(program: &Program, tally: &mut Tally) {
+    let plan = "a text, and a plan file to write if it isn't the text's name with .plan";
+    let run = "a plan file, and a file of offers if they don't come on standard input";
+    let cases: [(&[&str], String); 14] = [
+        (&[], "./hrt --help says how to call it".to_string()),
+        (&["lists"], "./hrt --help says how to call it".to_string()),
+        (&["plan"], format!("plan takes {plan}; ./hrt plan --help says more")),
+        (&["plan", "a", "b", "c"], format!("plan takes {plan}; ./hrt plan --help says more")),
+        (&["show"], "show takes one plan file; ./hrt show --help says more".to_string()),
+        (&["show", "a", "b"], "show takes one plan file; ./hrt show --help says more".to_string()),
+        (
+            &["show", "--summary"],
+            "show has no option '--summary'; ./hrt show --help says more".to_string(),
+        ),
+        (&["run"], format!("run takes {run}; ./hrt run --help says more")),
+        (&["run", "a", "b", "c"], format!("run takes {run}; ./hrt run --help says more")),
+        (
+            &["run", "--cycle", "3"],
+            "run has no option '--cycle'; ./hrt run --help says more".to_string(),
+        ),
+        (
+            &["run", "a", "--cycles"],
+            "run takes a number behind --cycles; ./hrt run --help says more".to_string(),
+        ),
+        (
+            &["run", "a", "--cycles", "4294967296"],
+            "the number of --cycles is 4294967296; it must be 0 to 4294967295".to_string(),
+        ),
+        (
+            &["run", "a", "--cycles=x"],
+            "the number of --cycles is 'x', which is no whole number; it must be 0 to 4294967295"
+                .to_string(),
+        ),
+        (
+            &["run", "-"],
+            "plan and offers can't both come from standard input; name a file for one of them"
+                .to_string(),
+        ),
+    ];
+    for (words, text) in cases {
+        sentence(program.call(tally, words, b""), 2, &format!("hrt: {text}"));
+    }
+}
+
+fn files(program: &Program, tally: &mut Tally) {
+    fs::create_dir(program.file("folder")).unwrap();
+    write(&program.file("no.plan"), b"torus 4 4\n\n\n");
+    let cases: [(&[&str], i32, &str); 9] = [
+        (&["show", "nothing"], 2, "hrt: there is no file 'nothing'"),
+        (&["show", "folder"], 2, "hrt: 'folder' is a folder, not a file"),
+        (&["show", "no.plan"], 1, "no.plan: refused 2 0; ./hrt explain 2 says why"),
+        (&["run", "no.plan"], 1, "no.plan: refused 2 0; ./hrt explain 2 says why"),
+        (&["run", "a mode.plan", "nothing"], 2, "hrt: there is no file 'nothing'"),
+        (&["plan", "nothing"], 2, "hrt: there is no file 'nothing'"),
+        (&["plan", "mode.txt", "folder"], 2, "hrt: 'folder' is a folder, not a file"),
+        (&["plan", "mode.txt", "no/where"], 2, "hrt: there is no folder for 'no/where'"),
+        (
+            &["plan", "mode.txt", "./mode.txt"],
+            2,
+            "hrt: './mode.txt' is the text itself; name another file for the plan",
+        ),
+    ];
+    for (words, status, text) in cases {
+        sentence(program.call(tally, words, b""), status, text);
+    }
+    let named = "hrt: a text that is no file needs a name for its plan: ./hrt plan TEXT PLAN";
+    sentence(program.call(tally, &["plan", "-"], MODE), 2, named);
+    assert_eq!(program.files(), ["a mode.plan", "folder", "mode.txt", "no.plan"]);
+    fs::remove_dir(program.file("folder")).unwrap();
+    fs::remove_file(program.file("no.plan")).unwrap();
+}
+
+/// `-` and /dev/stdin, on either side of a pipe; a file behind a link is replaced, not the link.
+fn standard_streams(program: &Program, tally: &mut Tally) {
+    let plan = fs::read(program.file("a mode.plan")).unwrap();
+    for name in ["-", "/dev/stdin"] {
+        assert_eq!(program.call(tally, &["show", name], &plan).out, MODE);
+        assert_eq!(program.call(tally, &["plan", name, "-"], MODE).out, plan);
+        assert_eq!(
+            program.call(tally, &["plan", name, "/dev/stdout"], MODE).out[..plan.len()],
+            plan
+        );
+        let run = program.call(tally, &["run", "a mode.plan", name, "--summary"], b"0 0");
+        assert!(run.out.ends_with(b"ended at cycle 2: everything has left\n"), "{run:?}");
+        let run = program.call(tally, &["run", "--summary", "--", name, "mode.txt"], &plan);
+        assert_eq!(run.err, "mode.txt:1: what is 'torus 4 4'? a line is CYCLE FLOW, as 120 3\n");
+    }
+    write(&program.file("old.plan"), b"old");
+    std::os::unix::fs::symlink("old.plan", program.file("link")).unwrap();
+    assert_eq!(program.call(tally, &["plan", "mode.txt", "link"], b"").status, 0);
+    assert_eq!(fs::read(program.file("old.plan")).unwrap(), plan);
+    assert!(fs::symlink_metadata(program.file("link")).unwrap().is_symlink());
+    fs::remove_file(program.file("link")).unwrap();
+    fs::remove_file(program.file("old.plan")).unwrap();
+}
+
+/// An interrupt while more offers are awaited: the table so far.
+fn interrupt(program: &Program) {
+    let mut child = program.start(&["run", "a mode.plan"]);
+    let mut stdin = child.stdin.take().unwrap();
+    let mut stdout = BufReader::new(child.stdout.take().unwrap());
+    stdin.write_all(b"0 0\n4 1\n9 0\n").unwrap();
+    let mut lines = String::new();
+    for _ in 0..2 {
+        stdout.read_line(&mut lines).unwrap();
+    }
+    let signal = Command::new("kill").args(["-INT", &child.id().to_string()]).status().unwrap();
+    assert!(signal.success());
+    stdout.read_to_string(&mut lines).unwrap();
+    let expected = "exit flow serial offer entry wait deflections flight
+1 0 1 0 0 0 0 3
+7 1 1 4 4 0 0 5
+
+flow  offered  refused  left  waiting  flying  wait  wait-bound  spare  nearest  flight  flight-bound
+   0        2        0     1        1       0     0          10     10       10       3             3
+   1        1        0     1        0       0     0           9      9        9       5             5
+ended at cycle 9: interrupted
+";
+    assert_eq!(lines, expected);
+    assert_eq!(child.wait().unwrap().code(), Some(130));
+    drop(stdin);
+}
+
+/// Nobody reads on: it ends without a word.
+fn closed_pipe(program: &Program) {
+    let mut child = program.start(&["run", "a mode.plan"]);
+    let mut stdin = child.stdin.take().unwrap();
+    drop(child.stdout.take());
+    for cycle in 0..1_000_000 {
+        if writeln!(stdin, "{} 0", 10 * cycle).is_err() {
+            break;
+        }
+    }
+    drop(stdin);
+    let output = child.wait_with_output().unwrap();
+    assert_eq!((output.stderr, output.status.code()), (Vec::new(), None));
+}
+
+/// Offers that would take more memory than there is if they were kept, as lines or as packets.
+fn long_stream(program: &Program) {
+    const OFFERS: u64 = 6_000_000;
+    const KILOBYTES: u64 = 24_000;
+    write(&program.file("small.txt"), b"torus 1 1\nflow 0 0 0 0 1 1\n");
+    let plan = program.start(&["plan", "small.txt"]).wait_with_output().unwrap();
+    assert!(plan.status.success());
+    assert!(8 * OFFERS > 1000 * KILOBYTES);
+    let limited = format!("ulimit -v {KILOBYTES}; exec \"$@\"");
+    let mut child = Command::new("sh")
+        .args(["-c", &limited, "sh", program.path(), "run", "small.plan", "--summary"])
+        .current_dir(program.file("."))
+        .stdin(Stdio::piped())
+        .stdout(Stdio::piped())
+        .spawn()
+        .unwrap();
+    let mut stdin = BufWriter::new(child.stdin.take().unwrap());
+    for cycle in 0..OFFERS {
+        writeln!(stdin, "{cycle} 0").unwrap();
+    }
+    drop(stdin);
+    let output = child.wait_with_output().unwrap();
+    let text = String::from_utf8(output.stdout).unwrap();
+    assert!(
+        text.contains(&format!("   0  {OFFERS}        0  {OFFERS}        0       0 ")),
+        "{text}"
+    );
+    assert!(output.status.success());
+    for name in ["small.txt", "small.plan"] {
+        fs::remove_file(program.file(name)).unwrap();
+    }
+}

@@ -1,0 +1,145 @@
+//! What `run` prints, by the packet book's lines.
+
+use crate::book::{Book, Line};
+use crate::plan::Plan;
+use crate::window::{flight_bound, window};
+use std::fmt::Write;
+
+/// A stream's next line.
+#[derive(Clone, Debug)]
+pub enum Entry {
+    Offer {
+        cycle: i64,
+        flow: u32,
+    },
+    /// A line that is no offer of this plan, or goes back.
+    Fault,
+}
+
+/// How a run is called.
+#[derive(Clone, Copy, Debug)]
+pub struct Options {
+    pub cycles: Option<i64>,
+    pub summary: bool,
+}
+
+/// The run as the book has it.
+struct Run {
+    book: Book,
+    offered: Vec<u64>,
+    refused: Vec<u64>,
+    /// The book's lines in the order of their exits.
+    exits: Vec<usize>,
+    /// How it ended.
+    end: &'static str,
+}
+
+/// What is printed for these entries.
+pub fn printed(plan: &Plan, entries: &[Entry], options: Options) -> String {
+    let run = ran(plan, entries, options.cycles);
+    let mut text = String::new();
+    if !options.summary {
+        text += "exit flow serial offer entry wait deflections flight\n";
+        for &line in &run.exits {
+            let line = &run.book.lines[line];
+            let (entry, exit) = (line.entry.unwrap(), line.exit.unwrap().0);
+            let Line { flow, serial, offer, d, .. } = line;
+            let (wait, flight) = (entry - offer, exit - entry + 2);
+            writeln!(text, "{exit} {flow} {serial} {offer} {entry} {wait} {d} {flight}").unwrap();
+        }
+        text += "\n";
+    }
+    text += &table(&run);
+    writeln!(text, "ended at cycle {}: {}", run.book.clock, run.end).unwrap();
+    text
+}
+
+fn ran(plan: &Plan, entries: &[Entry], cycles: Option<i64>) -> Run {
+    let flows = plan.flows.len();
+    let (offered, refused) = (vec![0; flows], vec![0; flows]);
+    let book = Book::new(plan.clone());
+    let mut run = Run { book, offered, refused, exits: Vec::new(), end: "" };
+    let mut entries = entries.iter().peekable();
+    let mut by_packet = std::collections::HashMap::new();
+    loop {
+        let clock = run.book.clock;
+        if cycles == Some(clock) {
+            run.end = "as asked";
+            return run;
+        }
+        while let Some(entry) = entries.peek() {
+            match entry {
+                Entry::Offer { cycle, .. } if *cycle > clock => break,
+                Entry::Offer { flow, .. } => {
+                    let f = *flow as usize;
+                    run.offered[f] += 1;
+                    match run.book.offer(*flow) {
+                        Ok(_) => {
+                            let line = run.book.lines.last().unwrap();
+                            by_packet.insert((line.flow, line.serial), run.book.lines.len() - 1);
+                        }
+                        Err(no) => {
+                            assert_eq!(no.number, 13);
+                            run.refused[f] += 1;
+                        }
+                    }
+                    entries.next();
+                }
+                Entry::Fault => {
+                    run.end = "at a faulty line";
+                    return run;
+                }
+            }
+        }
+        let all_left = run.book.placed.is_empty() && run.book.waiting.iter().all(|w| w.is_empty());
+        if entries.peek().is_none() && all_left {
+            run.end = "everything has left";
+            return run;
+        }
+        for [flow, serial, ..] in run.book.step(5 * plan.routers()).unwrap() {
+            run.exits.push(by_packet[&(flow as usize, serial as i64)]);
+        }
+    }
+}
+
+const HEADS: &str =
+    "flow offered refused left waiting flying wait wait-bound spare nearest flight flight-bound";
+
+/// The table: columns to the right, two blanks apart.
+fn table(run: &Run) -> String {
+    let mut rows = vec![HEADS.split(' ').map(String::from).collect::<Vec<_>>()];
+    rows.extend((0..run.book.plan.flows.len()).map(|f| row(run, f)));
+    let width = |column: usize| rows.iter().map(|row| row[column].len()).max().unwrap();
+    let widths: Vec<_> = (0..rows[0].len()).map(width).collect();
+    let mut text = String::new();
+    for row in &rows {
+        let cells = row.iter().zip(&widths).map(|(cell, width)| format!("{cell:>width$}"));
+        text += &cells.collect::<Vec<_>>().join("  ");
+        text += "\n";
+    }
+    text
+}
+
+fn row(run: &Run, f: usize) -> Vec<String> {
+    let plan = &run.book.plan;
+    let lines: Vec<&Line> = run.book.lines.iter().filter(|line| line.flow == f).collect();
+    let left = lines.iter().filter(|line| line.exit.is_some()).count();
+    let waiting = lines.iter().filter(|line| line.entry.is_none()).count();
+    let flying = lines.len() - left - waiting;
+    let t = window(plan, f);
+    let bound = |line: &Line| t.map(|t| (line.q + 1) * (plan.flows[f].period + t - 1) - 1);
+    let entered = lines.iter().filter_map(|line| Some((line.entry? - line.offer, bound(line))));
+    let longest = entered.clone().max_by_key(|(wait, bound)| (*wait, bound.map(|bound| -bound)));
+    let nearest = entered.filter_map(|(wait, bound)| Some(bound? - wait)).min();
+    let flight = lines.iter().filter_map(|line| Some(line.exit?.0 - line.entry? + 2)).max();
+    let shown = |number: Option<i64>| number.map_or("-".to_string(), |number| number.to_string());
+    let (wait, wait_bound) = (longest.map(|(wait, _)| wait), longest.and_then(|(_, bound)| bound));
+    let spare = wait_bound.map(|bound| bound - wait.unwrap());
+    let counts = [f as u64, run.offered[f], run.refused[f], left as u64];
+    let counts = counts.into_iter().chain([waiting as u64, flying as u64]);
+    counts
+        .map(|count| count.to_string())
+        .chain([wait, wait_bound, spare, nearest, flight].map(shown))
+        .chain([flight_bound(plan, f).to_string()])
+        .collect()
+}

@@ -1,0 +1,94 @@
+//! The program under test, and a folder for its files.
+
+use crate::compare::Tally;
+use std::io::Write;
+use std::path::{Path, PathBuf};
+use std::process::{Child, Command, Stdio};
+use std::{fs, thread};
+
+pub struct Program {
+    path: String,
+    folder: PathBuf,
+}
+
+/// What a call of the program printed, and its status (-1 if a signal ended it).
+#[derive(Debug)]
+pub struct Output {
+    pub out: Vec<u8>,
+    pub err: String,
+    pub status: i32,
+}
+
+impl Program {
+    pub fn new(path: &str) -> Program {
+        let path = fs::canonicalize(path).unwrap_or_else(|why| panic!("{path}: {why}"));
+        let path = path.into_os_string().into_string().unwrap();
+        let folder = std::env::temp_dir().join(format!("desk.{}", std::process::id()));
+        fs::create_dir(&folder).unwrap_or_else(|why| panic!("{}: {why}", folder.display()));
+        Program { path, folder }
+    }
+
+    pub fn path(&self) -> &str {
+        &self.path
+    }
+
+    /// A file of the folder.
+    pub fn file(&self, name: &str) -> PathBuf {
+        self.folder.join(name)
+    }
+
+    /// The folder's files, hidden ones too.
+    pub fn files(&self) -> Vec<String> {
+        let entries = fs::read_dir(&self.folder).unwrap();
+        let name = |entry: fs::DirEntry| entry.file_name().into_string().unwrap();
+        let mut names: Vec<_> = entries.map(|entry| name(entry.unwrap())).collect();
+        names.sort();
+        names
+    }
+
+    pub fn start(&self, words: &[&str]) -> Child {
+        Command::new(&self.path)
+            .args(words)
+            .current_dir(&self.folder)
+            .stdin(Stdio::piped())
+            .stdout(Stdio::piped())
+            .stderr(Stdio::piped())
+            .spawn()
+            .unwrap_or_else(|why| panic!("{} doesn't start: {why}", self.path))
+    }
+
+    /// Calls the program in its folder.
+    pub fn call(&self, tally: &mut Tally, words: &[&str], input: &[u8]) -> Output {
+        let mut child = self.start(words);
+        let mut stdin = child.stdin.take().unwrap();
+        let output = thread::scope(|scope| {
+            // A program that has seen enough may close its input early.
+            scope.spawn(move || drop(stdin.write_all(input)));
+            child.wait_with_output().unwrap()
+        });
+        let err = String::from_utf8(output.stderr).unwrap();
+        let status = output.status.code().unwrap_or(-1);
+        *tally.answers.entry(("desk", status.unsigned_abs().into())).or_default() += 1;
+        tally.words += output.stdout.len() as u64;
+        Output { out: output.stdout, err, status }
+    }
+}
+
+impl Drop for Program {
+    fn drop(&mut self) {
+        let _ = fs::remove_dir_all(&self.folder);
+    }
+}
+
+/// Compares what was printed line by line.
+pub fn same_lines(tally: &Tally, with: &dyn std::fmt::Debug, expected: &str, got: &[u8]) {
+    let got = String::from_utf8_lossy(got);
+    for (at, (expected, got)) in expected.lines().zip(got.lines()).enumerate() {
+        assert_eq!(expected, got, "seed {}, line {}: {with:?}", tally.seed, at + 1);
+    }
+    assert_eq!(expected.len(), got.len(), "seed {}, the length: {with:?}", tally.seed);
+}
+
+pub fn write(path: &Path, bytes: &[u8]) {
+    fs::write(path, bytes).unwrap_or_else(|why| panic!("{}: {why}", path.display()));
+}
