@@ -61,7 +61,7 @@ pub fn run(request: Request) -> Result<(), Ending> {
         progress: Progress::new(exits),
         ..Run::new(state, tallies, Offers::of(offers.name, offers.file))
     };
-    let end = run.to_its_end().map_err(cant_print)?;
+    let end = run.go_to_end().map_err(cant_print)?;
     run.progress.end();
     let end = run.last_checks(end);
     run.output
@@ -143,7 +143,7 @@ impl<R: Read> Run<R> {
     }
 
     /// Offers and steps until there is nothing more to do.
-    fn to_its_end(&mut self) -> io::Result<End> {
+    fn go_to_end(&mut self) -> io::Result<End> {
         loop {
             if let Some(number) = signals::noted() {
                 return Ok(End::Signal(number));
@@ -250,7 +250,7 @@ impl<R: Read> Run<R> {
         }
         let clock = self.state.clock();
         self.progress.cycle(clock, self.offered, self.left);
-        if clock % WATCH == 0 {
+        if clock.is_multiple_of(WATCH) {
             return Ok(self.watch().err().map(End::Broken));
         }
         Ok(None)
@@ -328,7 +328,7 @@ mod tests {
     #[test]
     fn the_clock_ends_with_refusal_11() {
         let mut run = run_from(LAST_CLOCK - 3, "4294967292 0\n4294967294 0");
-        let end = run.to_its_end().unwrap();
+        let end = run.go_to_end().unwrap();
         assert_eq!(end, End::Refused(Refusal { number: 11, place: 0 }));
         assert_eq!((run.state.clock(), run.offered, run.left, run.here), (LAST_CLOCK, 2, 0, 2));
         let ending = ending(run.last_checks(end)).unwrap_err();
@@ -339,7 +339,7 @@ mod tests {
     #[test]
     fn the_last_cycle_is_run() {
         let mut run = run_from(LAST_CLOCK - 7, "4294967288 0");
-        assert_eq!(run.to_its_end().unwrap(), End::Left);
+        assert_eq!(run.go_to_end().unwrap(), End::Left);
         assert_eq!((run.state.clock(), run.left), (LAST_CLOCK, 1));
     }
 
@@ -347,7 +347,7 @@ mod tests {
     fn a_broken_bound_is_loud() {
         let mut run = run_from(0, "0 0");
         run.tallies[0] = Tally::new(0, 10, Some(1), 7);
-        let end = run.to_its_end().unwrap();
+        let end = run.go_to_end().unwrap();
         assert_eq!(end, End::Broken("packet 1 of flow 0: flight 8, bound 7".to_string()));
         let ending = ending(end).unwrap_err();
         assert_eq!(ending.stop, Stop::Broken);
@@ -358,7 +358,7 @@ mod tests {
     fn a_missing_packet_is_told() {
         let mut run = run_from(0, "0 0\n9 0");
         run.cycles = Some(3);
-        assert_eq!(run.to_its_end().unwrap(), End::Cycles);
+        assert_eq!(run.go_to_end().unwrap(), End::Cycles);
         assert_eq!(run.watch(), Ok(()));
         run.here += 1;
         let broken = "1 packets are waiting or in flight, not 2".to_string();
@@ -371,7 +371,7 @@ mod tests {
         let mut run = run_from(0, "0 0\n0 0");
         run.tallies[0] = Tally::new(0, 1, Some(2), 20);
         run.cycles = Some(6);
-        let end = run.to_its_end().unwrap();
+        let end = run.go_to_end().unwrap();
         assert_eq!(end, End::Cycles);
         let broken = "packet 2 of flow 0: wait 6, bound 3".to_string();
         assert_eq!(run.last_checks(end), End::Broken(broken));

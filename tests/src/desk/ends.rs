@@ -168,10 +168,10 @@ fn closed_pipe(program: &Program) {
 fn long_stream(program: &Program) {
     const OFFERS: u64 = 6_000_000;
     const KILOBYTES: u64 = 24_000;
+    const { assert!(8 * OFFERS > 1000 * KILOBYTES) };
     write(&program.file("small.txt"), b"torus 1 1\nflow 0 0 0 0 1 1\n");
     let plan = program.start(&["plan", "small.txt"]).wait_with_output().unwrap();
     assert!(plan.status.success());
-    assert!(8 * OFFERS > 1000 * KILOBYTES);
     let limited = format!("ulimit -v {KILOBYTES}; exec \"$@\"");
     let mut child = Command::new("sh")
         .args(["-c", &limited, "sh", program.path(), "run", "small.plan", "--summary"])
