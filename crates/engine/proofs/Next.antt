@@ -27,7 +27,7 @@ use Rattle.state.proofs.Again.{state-again}
 use Rattle.cycle.specs.Offer.{offerState}
 use Rattle.cycle.specs.Step.{eastward, nextTally, nextCell, stepState}
 use Rattle.entry.specs.Entrants.{tallied}
-use Rattle.entry.proofs.Tally.{talliesAfter, counted, turned}
+use Rattle.entry.proofs.Tally.{counted, turned}
 use Rattle.routing.specs.Walk.{gridIn, registersIn, reaches, pushed, pushedRow, pushedAll}
 use Rattle.routing.proofs.Push.{pushAll, pushed-cell, length-pushed}
 use Rattle.engine.specs.Next.{nextWords}
