@@ -16,7 +16,7 @@ use Rattle.window.proofs.Windows.{window-none}
 use Rattle.router.specs.Links as Links
 use Rattle.router.specs.Rule as Rule
 use Rattle.book.specs.Cycle.{holds, sent, lowest, deliveries}
-use Rattle.book.specs.Calls.{refusal, feed}
+use Rattle.book.specs.Feed.{refusal, feed}
 use Rattle.book.specs.Cases.{starred, across, AllHold}
 
 -- a rival in every cycle: I(t) is t

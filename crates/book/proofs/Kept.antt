@@ -22,7 +22,7 @@ use Rattle.book.specs.Book.{Book, ofFlow, waitsFor, waitingOf, enteredOf
 use Rattle.book.specs.Cycle.{enters, move, stepped}
 use Rattle.flow.specs.Limits.{roomFor, lastClock, mostWaiting, offerNumber, stepNumber}
 use Rattle.plan.specs.declared.Answer.the-variants.{Refused}
-use Rattle.book.specs.Calls.{Call, offer, step, refusal, Fed, accepted, feed, runFrom, run}
+use Rattle.book.specs.Feed.{Call, offer, step, refusal, Fed, accepted, feed, runFrom, run}
 use Rattle.book.proofs.Moves.{turn, waited}
 use Rattle.book.proofs.Queue.{entered-step, entered-offer}
 use Rattle.book.proofs.Spans.{Lawful, lawful-start, lawful-offer, lawful-step}

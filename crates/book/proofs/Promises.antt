@@ -18,7 +18,7 @@ use Rattle.router.specs.Delivery.{Delivery}
 use Rattle.book.specs.Line.{Stage, waiting, placed, left, Line, isWaiting, isLeft, entryOf}
 use Rattle.book.specs.Book.{Book, ofFlow}
 use Rattle.book.specs.Cycle.{deliveryOf}
-use Rattle.book.specs.Calls.{Call, run}
+use Rattle.book.specs.Feed.{Call, run}
 use Rattle.book.specs.Promises.{deadline, EntersBy, sameWords, delivers, Promises}
 use Rattle.book.proofs.Queue.{Queued, serial-range, serial-once}
 use Rattle.book.proofs.Traced.{line-ok}

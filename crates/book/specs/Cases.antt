@@ -13,7 +13,7 @@ use Rattle.window.specs.Window.{windowOf}
 use Rattle.window.specs.Flight.{flight, flightOf, flightBound}
 use Rattle.book.specs.Book.{bucketAt}
 use Rattle.router.specs.Delivery.{Delivery}
-use Rattle.book.specs.Calls.{Call, offer, step, run}
+use Rattle.book.specs.Feed.{Call, offer, step, run}
 
 -- a flow from (xs,ys) to (xd,yd) with period P and burst σ
 abbrev flow : ℕ → ℕ → ℕ → ℕ → ℕ → ℕ → Flow

@@ -2,6 +2,6 @@
 pub mod Line
 pub mod Book
 pub mod Cycle
-pub mod Calls
+pub mod Feed
 pub mod Promises
 pub mod Cases

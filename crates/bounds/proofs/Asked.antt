@@ -14,7 +14,7 @@ use Rattle.plan.specs.declared.Answer.the-variants.{Done, Refused}
 use Rattle.plan.specs.declared.Trailer.{Trailer}
 use Rattle.plan.specs.Layout.{trailerOf, planOf}
 use Rattle.plan.specs.Refusals.{orElse, planAnswer}
-use Rattle.bounds.specs.Calls.{asked}
+use Rattle.bounds.specs.Bounds.{asked}
 use Rattle.bounds.specs.Inner.{Opened, FlowOf}
 use Rattle.bounds.proofs.Opened.{opened-count}
 

@@ -16,7 +16,7 @@ use Rattle.plan.specs.Layout.{mostFile, recordSize, trailerSize, tagged, traile
 use Rattle.window.specs.declared.Window.{Window}
 use Rattle.window.specs.declared.Window.the-variants.{At, Nothing}
 use Rattle.window.specs.Window.{windowOf}
-use Rattle.bounds.specs.Calls.{asked, windowBy, windowAnswer}
+use Rattle.bounds.specs.Bounds.{asked, windowBy, windowAnswer}
 use Rattle.bounds.specs.Inner.{NumberMost}
 
 or-else-most : (m : ℕ) (a b : Answer) → NumberMost m a → NumberMost m b → NumberMost m (orElse a b)

@@ -9,7 +9,7 @@ use Rattle.plan.specs.Layout.{planOf}
 use Rattle.window.specs.declared.Window.{Window}
 use Rattle.window.specs.declared.Window.the-variants.{At, Nothing}
 use Rattle.window.specs.Window.{windowOf}
-use Rattle.bounds.specs.Calls.{asked, windowBy, windowAnswer, flightBoundAnswer, flightBoundOf}
+use Rattle.bounds.specs.Bounds.{asked, windowBy, windowAnswer, flightBoundAnswer, flightBoundOf}
 use Rattle.bounds.proofs.Asked.{asked-refused, asked-done}
 
 -- a call on a flow that isn't refused answers its own value

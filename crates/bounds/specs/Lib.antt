@@ -1,3 +1,3 @@
 -- The calls that answer bounds from a plan file, in 01's words.
-pub mod Calls
+pub mod Bounds
 pub mod Inner

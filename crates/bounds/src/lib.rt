@@ -12,7 +12,7 @@ ghost use Rattle.plan.specs.Layout.{planOf};
 ghost use Rattle.window.specs.Window.{windowOf};
 ghost use Rattle.window.specs.Rivals.{rivalWords, RivalsAmong};
 ghost use Rattle.bounds.specs.Inner.{FlowOf};
-ghost use Rattle.bounds.specs.Calls.{asked, windowAnswer, flightBoundAnswer, flightBoundOf};
+ghost use Rattle.bounds.specs.Bounds.{asked, windowAnswer, flightBoundAnswer, flightBoundOf};
 
 // Flow number f of an accepted file.
 pub fn flow_at(file: &[u8], t: Trailer, f: u32) -> Flow

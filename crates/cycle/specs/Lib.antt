@@ -2,5 +2,4 @@
 pub mod Seen
 pub mod Step
 pub mod Offer
-pub mod Calls
 pub mod Sent

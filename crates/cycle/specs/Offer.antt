@@ -1,9 +1,18 @@
--- An offer on a state: one more waiting, and nothing else (01, State memory).
+-- An offer: the state after it, and what it answers and leaves behind (01, State memory; When a call says no).
+use mathlib.Core.List.{List}
 use Prim.Native.Nat.{ℕ, _+_}
 use lib.ListN.{set}
+use Rattle.flow.specs.Limits.{offerNumber}
+use Rattle.plan.specs.declared.Answer.{Answer}
+use Rattle.plan.specs.declared.Answer.the-variants.{Done}
 use Rattle.state.specs.declared.Tally.{Tally}
 use Rattle.state.specs.State.{State, tallyAt}
+use Rattle.state.specs.Words.{stateWords}
+use Rattle.state.specs.Read.{stateOf}
+use Rattle.state.specs.Forms.{stateNumber}
+use Rattle.state.specs.Outcome.{Outcome, outcome, unless, over}
 
+-- one more waiting, and nothing else
 unfoldable pub offerState : State → (flow : ℕ) → State
 offerState s flow =
     let t : Tally = tallyAt s flow in
@@ -13,3 +22,11 @@ offerState s flow =
       tallies = set (s .tallies) flow (record { bucket = t .bucket; entered = t .entered; waiting = t .waiting + 1 });
       cells = s .cells;
     }
+
+-- an offer: state, 12, 13; otherwise one more waiting
+unfoldable pub offerOn : (words : List ℕ) → (flow : ℕ) → Outcome Answer (List ℕ)
+offerOn words flow =
+    let s = stateOf words in
+    unless (stateNumber words) words
+    (unless (offerNumber (s .plan) flow ((tallyAt s flow) .waiting)) words
+    (outcome (Done 0) (over (stateWords (offerState s flow)) words)))

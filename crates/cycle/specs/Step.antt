@@ -1,4 +1,5 @@
--- One cycle on a state, all routers from the old registers, and what it delivers (01, One cycle).
+-- One cycle on a state, all routers from the old registers, what it delivers, and what a step answers and leaves behind
+-- (01, One cycle; When a call says no).
 use mathlib.Core.Bool.{Bool, cond}
 use mathlib.Core.List.{List, [], _∷_}
 use mathlib.Core.Option.{Option, none, some}
@@ -9,16 +10,23 @@ use Rattle.laws.specs.Count.{one, joinBelow}
 use Rattle.laws.specs.Grid.{grid}
 use Rattle.flow.specs.declared.Flow.{Flow}
 use Rattle.flow.specs.Plan.{flowAt}
+use Rattle.flow.specs.Limits.{stepNumber}
 use Rattle.bucket.specs.Regulator.{afterCycle}
+use Rattle.plan.specs.declared.Answer.{Answer}
+use Rattle.plan.specs.declared.Answer.the-variants.{Done}
 use Rattle.place.specs.Place.{Place, W, N}
 use Rattle.router.specs.Links.{Output, feeder}
 use Rattle.router.specs.Rule.{Seen, deflects, Way, via, leave, sameWay, takes, entrant, wayIn}
-use Rattle.router.specs.Delivery.{Delivery}
+use Rattle.router.specs.Delivery.{Delivery, wordsOf}
 use Rattle.state.specs.declared.Register.{Register}
 use Rattle.state.specs.declared.Register.the-variants.{Empty, Packet}
 use Rattle.state.specs.declared.Tally.{Tally}
 use Rattle.state.specs.declared.Cell.{Cell}
 use Rattle.state.specs.State.{State, tallyAt, cellAt}
+use Rattle.state.specs.Words.{stateWords}
+use Rattle.state.specs.Read.{stateOf}
+use Rattle.state.specs.Forms.{stateNumber}
+use Rattle.state.specs.Outcome.{Outcome, outcome, Lent, lent, unless, over}
 use Rattle.cycle.specs.Seen.{seen, view, enters}
 
 -- one deflection more
@@ -92,3 +100,11 @@ delivered s x y = leaving (s .clock) (carried s x y leave)
 -- routers by row then column
 unfoldable pub deliveries : State → List Delivery
 deliveries s = joinBelow (s .plan .sy) (λ y. joinBelow (s .plan .sx) (λ x. delivered s x y))
+
+-- a step: state, 10, 11; otherwise one cycle, the exits' words and their count
+unfoldable pub stepOn : (words delivery : List ℕ) → Outcome Answer Lent
+stepOn words delivery =
+    let s = stateOf words in
+    unless (stateNumber words) (lent words delivery)
+    (unless (stepNumber (s .plan) (length delivery) (s .clock)) (lent words delivery)
+    (outcome (Done (length (deliveries s))) (lent (over (stateWords (stepState s)) words) (over (wordsOf (deliveries s)) delivery))))

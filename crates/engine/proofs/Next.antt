@@ -18,7 +18,7 @@ use Rattle.state.specs.State.{State, tallyAt, cellAt, freshTally, emptyCell}
 use Rattle.state.specs.Words.{tallyWords, cellWords, stateWords}
 use Rattle.state.specs.Read.{sxIn, syIn, countIn, clockIn, planIn, stateOf}
 use Rattle.state.specs.Outcome.{over}
-use Rattle.state.specs.Calls.{planSize}
+use Rattle.state.specs.Layout.{planSize}
 use Rattle.state.proofs.Words.{length-cell}
 use Rattle.state.proofs.Forms.{StateFacts}
 use Rattle.state.proofs.View.{view-sized}

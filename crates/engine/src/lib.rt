@@ -17,7 +17,8 @@ ghost use Rattle.entry.specs.Entrants.{Entrants};
 ghost use Rattle.routing.specs.Walk.{registersIn, pushedAll};
 ghost use Rattle.engine.specs.Next.{Room, nextWords};
 ghost use Rattle.cycle.specs.Step.{stepState, deliveries};
-ghost use Rattle.cycle.specs.Calls.{offerOn, stepOn};
+ghost use Rattle.cycle.specs.Offer.{offerOn};
+ghost use Rattle.cycle.specs.Step.{stepOn};
 ghost use Rattle.cycle.specs.Offer.{offerState};
 
 // Copies n words to a place.
@@ -149,7 +150,7 @@ fn offer_number(state: &[u32], f: u32) -> u32
 pub fn offer(state: &mut [u32], flow: u32) -> Answer
     ensures { λ r. ⌜ outcome r (now (state .exit)) ≡ offerOn (now (state .entry)) flow ⌝ }
 {
-    let number = forms::state_number(state);
+    let number = valid::state_number(state);
     if number != 0 {
         return Answer::Refused { number, place: 0 };
     }
@@ -183,7 +184,7 @@ fn step_number(state: &[u32], delivery: &[u32]) -> u32
 pub fn step(state: &mut [u32], delivery: &mut [u32]) -> Answer
     ensures { λ r. ⌜ outcome r (lent (now (state .exit)) (now (delivery .exit))) ≡ stepOn (now (state .entry)) (now (delivery .entry)) ⌝ }
 {
-    let number = forms::state_number(state);
+    let number = valid::state_number(state);
     if number != 0 {
         return Answer::Refused { number, place: 0 };
     }

@@ -19,7 +19,7 @@ use Rattle.state.specs.Layout.{flowPlace, numberSize}
 use Rattle.state.specs.State.{tallyAt, cellAt}
 use Rattle.state.specs.Words.{tallyWords}
 use Rattle.state.specs.Read.{countIn, flowIn, tallyIn, stateOf}
-use Rattle.state.specs.Calls.{planSize}
+use Rattle.state.specs.Layout.{planSize}
 use Rattle.state.proofs.Forms.{StateFacts}
 use Rattle.state.proofs.View.{view-count}
 use Rattle.state.proofs.Read.{flow-read, tally-read}

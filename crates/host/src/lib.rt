@@ -1,12 +1,14 @@
 // The C interface, declared in include/hrt.h: thin, over the calls of plan, bounds, reset, writing and cycle.
 use plan::Answer;
 ghost use mathlib.Core.Path.{_≡_};
-ghost use Rattle.bounds.specs.Calls.{windowAnswer, flightBoundAnswer};
+ghost use Rattle.bounds.specs.Bounds.{windowAnswer, flightBoundAnswer};
 ghost use Rattle.bounds.specs.Inner.{NumberMost};
 ghost use Rattle.host.specs.Words.{windowWord, answerWord, notesAnswer, inWords};
 ghost use Rattle.state.specs.Outcome.{outcome, lent};
-ghost use Rattle.state.specs.Calls.{resetOn, writeOn};
-ghost use Rattle.cycle.specs.Calls.{offerOn, stepOn};
+ghost use Rattle.state.specs.Reset.{resetOn};
+ghost use Rattle.state.specs.Writing.{writeOn};
+ghost use Rattle.cycle.specs.Offer.{offerOn};
+ghost use Rattle.cycle.specs.Step.{stepOn};
 
 // The window call's answer as a number.
 fn window_word(a: Answer) -> u32

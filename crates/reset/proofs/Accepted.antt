@@ -21,7 +21,8 @@ use Rattle.state.specs.Words.{stateWords}
 use Rattle.state.specs.Read.{planIn}
 use Rattle.state.specs.Forms.{tallyFits, stateNumber}
 use Rattle.state.specs.Outcome.{Outcome, unlessRefused, over}
-use Rattle.state.specs.Calls.{planSize, resetOn, freshOn}
+use Rattle.state.specs.Layout.{planSize}
+use Rattle.state.specs.Reset.{resetOn, freshOn}
 use Rattle.state.proofs.Read.{plan-read}
 use Rattle.state.proofs.Formed.{StateOk, registerOk, words-form}
 use Rattle.reset.proofs.Fresh.{fresh-tally, empty-cell}

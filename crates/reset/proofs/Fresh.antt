@@ -20,7 +20,7 @@ use Rattle.state.specs.Layout.{headerSize, flowSize, routerSize, flowPlace, sta
 use Rattle.state.specs.State.{tallyAt, cellAt, freshTally, emptyCell, resetState}
 use Rattle.state.specs.Words.{headerWords, cellWords, stateWords}
 use Rattle.state.specs.Outcome.{over}
-use Rattle.state.specs.Calls.{planSize}
+use Rattle.state.specs.Layout.{planSize}
 use Rattle.state.proofs.Holds.{Front, registers-written, hold-same, hold-over}
 use Rattle.reset.specs.Fresh.{freshWords}
 

@@ -18,7 +18,7 @@ ghost use Rattle.state.specs.Layout.{headerSize, flowSize, routerSize, flowPlac
 ghost use Rattle.state.specs.State.{emptyCell, resetState};
 ghost use Rattle.state.specs.Words.{cellWords, stateWords};
 ghost use Rattle.state.specs.Outcome.{outcome, over};
-ghost use Rattle.state.specs.Calls.{freshOn, resetOn};
+ghost use Rattle.state.specs.Reset.{freshOn, resetOn};
 ghost use Rattle.reset.specs.Fresh.{freshWords, freshFlows};
 
 // Writes Sx, Sy, F, clock 0 and the four zeros.

@@ -18,12 +18,12 @@ use Rattle.plan.specs.Layout.{planOf}
 use Rattle.plan.proofs.Ranges.{Bytes, plan-ok}
 use Rattle.window.specs.Flight.{flight, flightOf, flightBound, mostDeflections}
 use Rattle.window.proofs.Flight.{flight-of, flight-bounded}
-use Rattle.bounds.specs.Calls.{windowAnswer}
+use Rattle.bounds.specs.Bounds.{windowAnswer}
 use Rattle.bounds.proofs.Told.{window-told, flight-told}
 use Rattle.book.specs.Line.{Line, Stage, waiting, placed, left, isWaiting, isLeft, entryOf, exitOf}
 use Rattle.book.specs.Book.{Book, start, totalOf, offeredLine, offered}
-use Rattle.book.specs.Calls.{Call, refusal, judged, feed, runFrom, run}
-use Rattle.book.specs.Calls as BookCalls
+use Rattle.book.specs.Feed.{Call, refusal, judged, feed, runFrom, run}
+use Rattle.book.specs.Feed as Feed
 use Rattle.book.specs.Promises.{deadline, EntersBy, Flies}
 use Rattle.book.proofs.Queue.{total-split}
 use Rattle.book.proofs.Kept.{Kept, kept-run}
@@ -31,7 +31,8 @@ use Rattle.state.specs.declared.Tally.{Tally}
 use Rattle.state.specs.Words.{stateWords}
 use Rattle.state.specs.Read.{planIn}
 use Rattle.state.specs.Outcome.{Outcome, Lent}
-use Rattle.state.specs.Calls.{planSize, resetOn}
+use Rattle.state.specs.Layout.{planSize}
+use Rattle.state.specs.Reset.{resetOn}
 use Rattle.state.proofs.Read.{clock-read, tally-at-read}
 use Rattle.reset.proofs.Accepted.{never, accepted}
 use Rattle.writing.proofs.Back.{file-back}
@@ -76,15 +77,15 @@ run-last p b (d ∷ cs) c = run-last p ((feed p b d) .book) cs c
 
 module _ (p : Plan) (b : Book) (f : ℕ) where
   -- an offer that is answered by 0 is not refused, and adds its line
-  offer-passes : (feed p b (BookCalls.offer f)) .reply ≡ Done 0 → refusal p b (BookCalls.offer f) ≡ 0
+  offer-passes : (feed p b (Feed.offer f)) .reply ≡ Done 0 → refusal p b (Feed.offer f) ≡ 0
   unfolding feed
-  offer-passes e = go (refusal p b (BookCalls.offer f)) e
+  offer-passes e = go (refusal p b (Feed.offer f)) e
     where
-      go : (n : ℕ) → (judged p b (BookCalls.offer f) n) .reply ≡ Done 0 → n ≡ 0
+      go : (n : ℕ) → (judged p b (Feed.offer f) n) .reply ≡ Done 0 → n ≡ 0
       go zero q = refl
       go (suc n) q = absurd (never _ _ _ q)
 
-  offer-adds : (feed p b (BookCalls.offer f)) .reply ≡ Done 0 → (feed p b (BookCalls.offer f)) .book ≡ offered b f
+  offer-adds : (feed p b (Feed.offer f)) .reply ≡ Done 0 → (feed p b (Feed.offer f)) .book ≡ offered b f
   unfolding feed
   offer-adds e = rw (offer-passes e)
 
@@ -142,7 +143,7 @@ module _ (file words : List ℕ) (bytes : Bytes file) (done : (resetOn file word
     i = record { asked = offer f; lentWords = n }
 
     -- an accepted offer was fed to the book
-    was-fed : (onMemory memory i) .answer ≡ Done 0 → (roleIn p i ≡ role (i .asked)) × ((feed p b (BookCalls.offer f)) .reply ≡ Done 0)
+    was-fed : (onMemory memory i) .answer ≡ Done 0 → (roleIn p i ≡ role (i .asked)) × ((feed p b (Feed.offer f)) .reply ≡ Done 0)
     was-fed e =
         let due-is : (due p b words i (roleIn p i)) .answer ≡ Done 0 =
         sym (ap (λ (o : Outcome Answer Lent). o .answer) (does p words b kept i tt)) ∙ ap (λ m. (onMemory m i) .answer) (sym (follows .state)) ∙ e in
@@ -156,7 +157,7 @@ module _ (file words : List ℕ) (bytes : Bytes file) (done : (resetOn file word
     adds e =
         let h = was-fed e in
         ap (λ cs. (run p cs) .book) (fed-last p is i ∙ ap (λ r. fed p is ++ fedAs r) (h .0))
-        ∙ run-last p (start p) (fed p is) (BookCalls.offer f)
+        ∙ run-last p (start p) (fed p is) (Feed.offer f)
         ∙ offer-adds p b f (h .1)
 
     numbers : (onMemory memory i) .answer ≡ Done 0 → (bookAfter file (is ++ (i ∷ []))) .lines ≡ b .lines ++ (acceptedLine memory f ∷ [])

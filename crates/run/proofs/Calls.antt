@@ -13,8 +13,8 @@ use Rattle.flow.specs.Plan.{Plan}
 use Rattle.book.specs.Book.{Book, waitingOf}
 use Rattle.router.specs.Delivery.{wordsOf}
 use Rattle.flow.specs.Limits.{mostWaiting, offerNumber, stepNumber}
-use Rattle.book.specs.Calls.{Fed, judged, feed, refusal}
-use Rattle.book.specs.Calls as BookCalls
+use Rattle.book.specs.Feed.{Fed, judged, feed, refusal}
+use Rattle.book.specs.Feed as Feed
 use Rattle.book.proofs.Kept.{Kept}
 use Rattle.plan.specs.declared.Answer.{Answer}
 use Rattle.plan.specs.declared.Answer.the-variants.{Done}
@@ -22,10 +22,11 @@ use Rattle.plan.specs.Written.{planBytes}
 use Rattle.state.specs.State.{tallyAt}
 use Rattle.state.specs.Words.{stateWords}
 use Rattle.state.specs.Outcome.{Outcome, outcome, lent, unless, over}
-use Rattle.state.specs.Calls.{bytesOn, writeOn}
+use Rattle.state.specs.Writing.{bytesOn, writeOn}
 use Rattle.cycle.specs.Offer.{offerState}
 use Rattle.cycle.specs.Step.{stepState, deliveries}
-use Rattle.cycle.specs.Calls.{offerOn, stepOn}
+use Rattle.cycle.specs.Offer.{offerOn}
+use Rattle.cycle.specs.Step.{stepOn}
 use Rattle.run.specs.View.{bookState}
 use Rattle.run.specs.List.{offer, step, write, onWords}
 use Rattle.run.proofs.View.{tally-at}
@@ -39,28 +40,28 @@ module _ (p : Plan) (b : Book) (k : Kept p b) (tail : List ℕ) where
   w = image p b tail
 
   -- both sides give an offer and a step the same number
-  offer-number : (f : ℕ) → let s = bookState p b in offerNumber (s .plan) f ((tallyAt s f) .waiting) ≡ refusal p b (BookCalls.offer f)
+  offer-number : (f : ℕ) → let s = bookState p b in offerNumber (s .plan) f ((tallyAt s f) .waiting) ≡ refusal p b (Feed.offer f)
   unfolding bookState refusal offerNumber
   offer-number f =
       elim (test (leb (length (p .flows)) f)) [ inl out ↦ rw out | inr in-plan ↦ rw (tally-at p b f (leb-false _ _ in-plan)) ]
 
-  step-number : (room : ℕ) → let s = bookState p b in stepNumber (s .plan) room (s .clock) ≡ refusal p b (BookCalls.step room)
+  step-number : (room : ℕ) → let s = bookState p b in stepNumber (s .plan) room (s .clock) ≡ refusal p b (Feed.step room)
   unfolding bookState refusal
   step-number room = refl
 
-  pub below : (f : ℕ) → refusal p b (BookCalls.offer f) ≡ 0 → f < length (p .flows)
+  pub below : (f : ℕ) → refusal p b (Feed.offer f) ≡ 0 → f < length (p .flows)
   unfolding refusal offerNumber
   below f e = leb-false _ _ (passed (leb (length (p .flows)) f) 11 (cond (leb mostWaiting (waitingOf b f)) 13 0) e .0)
 
   -- and by that number do the same
-  offer-by : (f n : ℕ) → refusal p b (BookCalls.offer f) ≡ n → let now : Fed = judged p b (BookCalls.offer f) n in
+  offer-by : (f n : ℕ) → refusal p b (Feed.offer f) ≡ n → let now : Fed = judged p b (Feed.offer f) n in
       let o : Outcome Answer (List ℕ) = unless n w (outcome (Done 0) (over (stateWords (offerState (bookState p b) f)) w)) in
       outcome (o .answer) (lent (o .memory) []) ≡ outcome (now .reply) (lent (image p (now .book) tail) (over (wordsOf (now .delivered)) []))
   unfolding unless
   offer-by f zero e = rw (offer-follows p b f (below f e), image-again p b tail)
   offer-by f (suc n) e = refl
 
-  step-by : (delivery : List ℕ) (n : ℕ) → let s = bookState p b in let now : Fed = judged p b (BookCalls.step (length delivery)) n in
+  step-by : (delivery : List ℕ) (n : ℕ) → let s = bookState p b in let now : Fed = judged p b (Feed.step (length delivery)) n in
       unless n (lent w delivery)
       (outcome (Done (length (deliveries s))) (lent (over (stateWords (stepState s)) w) (over (wordsOf (deliveries s)) delivery)))
       ≡ outcome (now .reply) (lent (image p (now .book) tail) (over (wordsOf (now .delivered)) delivery))
@@ -68,16 +69,16 @@ module _ (p : Plan) (b : Book) (k : Kept p b) (tail : List ℕ) where
   step-by delivery zero = rw (step-follows p b k, deliveries-follow p b k, image-again p b tail)
   step-by delivery (suc n) = refl
 
-  pub offer-on : (f : ℕ) → let now : Fed = feed p b (BookCalls.offer f) in
+  pub offer-on : (f : ℕ) → let now : Fed = feed p b (Feed.offer f) in
       onWords (offer f) w ≡ outcome (now .reply) (lent (image p (now .book) tail) (over (wordsOf (now .delivered)) []))
   unfolding offerOn unless feed
-  offer-on f = rw (number p b tail k, view p b tail, offer-number f) (offer-by f (refusal p b (BookCalls.offer f)) refl)
+  offer-on f = rw (number p b tail k, view p b tail, offer-number f) (offer-by f (refusal p b (Feed.offer f)) refl)
 
-  pub step-on : (delivery : List ℕ) → let now : Fed = feed p b (BookCalls.step (length delivery)) in
+  pub step-on : (delivery : List ℕ) → let now : Fed = feed p b (Feed.step (length delivery)) in
       onWords (step delivery) w ≡ outcome (now .reply) (lent (image p (now .book) tail) (over (wordsOf (now .delivered)) delivery))
   unfolding stepOn unless feed
   step-on delivery =
-      rw (number p b tail k, view p b tail, step-number (length delivery)) (step-by delivery (refusal p b (BookCalls.step (length delivery))))
+      rw (number p b tail k, view p b tail, step-number (length delivery)) (step-by delivery (refusal p b (Feed.step (length delivery))))
 
   pub write-on : (notes target : List ℕ) → let o : Outcome Answer (List ℕ) = bytesOn (planBytes notes p) target in
       onWords (write notes target) w ≡ outcome (o .answer) (lent w (o .memory))

@@ -18,18 +18,21 @@ use Rattle.book.specs.Book.{Book, start}
 use Rattle.router.specs.Delivery.{wordsOf}
 use Rattle.router.proofs.Delivery.{words-append, words-length}
 use Rattle.book.specs.Cycle.{deliveries}
-use Rattle.book.specs.Calls.{Call, Fed, feed, Run, runFrom, run}
-use Rattle.book.specs.Calls as BookCalls
+use Rattle.book.specs.Feed.{Call, Fed, feed, Run, runFrom, run}
+use Rattle.book.specs.Feed as Feed
 use Rattle.book.proofs.Kept.{Kept, feed-cases, kept-start, kept-feed, kept-run}
 use Rattle.book.proofs.Promises.{promises}
 use Rattle.state.specs.State.{resetState}
 use Rattle.state.specs.Words.{stateWords}
 use Rattle.state.specs.Forms.{stateNumber}
 use Rattle.state.specs.Outcome.{Outcome, outcome, Lent, lent, unless, over}
-use Rattle.state.specs.Calls.{planSize, resetOn, writeOn}
+use Rattle.state.specs.Layout.{planSize}
+use Rattle.state.specs.Reset.{resetOn}
+use Rattle.state.specs.Writing.{writeOn}
 use Rattle.state.proofs.Words.{length-words}
 use Rattle.reset.proofs.Accepted.{accepted, leaves}
-use Rattle.cycle.specs.Calls.{offerOn, stepOn}
+use Rattle.cycle.specs.Offer.{offerOn}
+use Rattle.cycle.specs.Step.{stepOn}
 use Rattle.run.specs.List.{Asked, offer, step, write, reset, onWords, Item, onMemory, memoryAfter, Role, feeds, between, resets, role, tooLittle, roleIn}
 use Rattle.run.specs.List.{MayCome, IsList, fedAs, fed, beside, outcomes, bookMemory, due, expected}
 use Rattle.run.specs.List.{fedOutcomes, wordCount, deliveredBy, EveryList}
@@ -95,9 +98,9 @@ module _ (p : Plan) (words : List ℕ) where
           unchanged m (item (reset file)) _ _ (ap (λ w. outcome ((resetOn file part) .answer) (lent w [])) (reset-refused file part may))
 
       does-enough : (c : Asked) → planSize p ≤ n → MayCome (role c) ((onMemory m (item c)) .answer) → Does (item c) (role c)
-      does-enough (offer f) h may = enough (feed p b (BookCalls.offer f) .book) (item (offer f)) _ _ h (λ t. offer-on p b k t f)
+      does-enough (offer f) h may = enough (feed p b (Feed.offer f) .book) (item (offer f)) _ _ h (λ t. offer-on p b k t f)
       does-enough (step delivery) h may =
-          enough (feed p b (BookCalls.step (length delivery)) .book) (item (step delivery)) _ _ h (λ t. step-on p b k t delivery)
+          enough (feed p b (Feed.step (length delivery)) .book) (item (step delivery)) _ _ h (λ t. step-on p b k t delivery)
       does-enough (write notes target) h may = enough b (item (write notes target)) _ _ h (λ t. write-on p b k t notes target)
       does-enough (reset file) h may = does-reset file may
 

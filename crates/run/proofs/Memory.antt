@@ -22,7 +22,7 @@ use Rattle.state.specs.Words.{stateWords}
 use Rattle.state.specs.Read.{planIn, stateOf}
 use Rattle.state.specs.Forms.{headerFits, sizeIn, stateNumber}
 use Rattle.state.specs.Outcome.{over}
-use Rattle.state.specs.Calls.{planSize}
+use Rattle.state.specs.Layout.{planSize}
 use Rattle.state.proofs.Words.{length-words}
 use Rattle.state.proofs.Read.{Sized, sx-read, sy-read, count-read, plan-read, read-back}
 use Rattle.state.proofs.Formed.{words-form}

@@ -11,7 +11,8 @@ use Rattle.plan.specs.declared.Answer.the-variants.{Done, Refused}
 use Rattle.plan.specs.Layout.{planOf}
 use Rattle.plan.specs.Refusals.{planAnswer}
 use Rattle.state.specs.Outcome.{unlessRefused}
-use Rattle.state.specs.Calls.{planSize, resetOn}
+use Rattle.state.specs.Layout.{planSize}
+use Rattle.state.specs.Reset.{resetOn}
 use Rattle.run.specs.List.{MayCome, resets}
 
 module _ (file words : List ℕ) where

@@ -11,15 +11,16 @@ use Rattle.plan.specs.Layout.{planOf}
 use Rattle.plan.specs.Notes.{notesOf}
 use Rattle.window.specs.Window.{loneWait}
 use Rattle.window.specs.Flight.{flight}
-use Rattle.bounds.specs.Calls.{windowAnswer, flightBoundAnswer}
+use Rattle.bounds.specs.Bounds.{windowAnswer, flightBoundAnswer}
 use Rattle.book.specs.Line.{Line, waiting, isWaiting, isLeft, entryOf, exitOf}
 use Rattle.book.specs.Book.{Book}
-use Rattle.book.specs.Calls.{run}
+use Rattle.book.specs.Feed.{run}
 use Rattle.book.specs.Promises.{deadline}
 use Rattle.state.specs.Layout.{flowPlace}
 use Rattle.state.specs.Read.{clockIn, tallyIn}
 use Rattle.state.specs.Outcome.{outcome, over}
-use Rattle.state.specs.Calls.{resetOn, writeOn}
+use Rattle.state.specs.Reset.{resetOn}
+use Rattle.state.specs.Writing.{writeOn}
 use Rattle.run.specs.List.{offer, Item, onMemory, memoryAfter, IsList, fed}
 
 -- the packet book after a list from the file's reset

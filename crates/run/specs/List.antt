@@ -15,14 +15,17 @@ use Rattle.plan.specs.Layout.{planOf}
 use Rattle.plan.specs.Written.{planBytes}
 use Rattle.book.specs.Book.{Book, start}
 use Rattle.router.specs.Delivery.{wordsOf}
-use Rattle.book.specs.Calls.{Call, feed, runFrom, run}
-use Rattle.book.specs.Calls as BookCalls
+use Rattle.book.specs.Feed.{Call, feed, runFrom, run}
+use Rattle.book.specs.Feed as Feed
 use Rattle.book.specs.Promises.{Promises}
 use Rattle.state.specs.Words.{stateWords}
 use Rattle.state.specs.Forms.{stateNumber}
 use Rattle.state.specs.Outcome.{Outcome, outcome, Lent, lent, refused, over}
-use Rattle.state.specs.Calls.{planSize, resetOn, bytesOn, writeOn}
-use Rattle.cycle.specs.Calls.{offerOn, stepOn}
+use Rattle.state.specs.Layout.{planSize}
+use Rattle.state.specs.Reset.{resetOn}
+use Rattle.state.specs.Writing.{bytesOn, writeOn}
+use Rattle.cycle.specs.Offer.{offerOn}
+use Rattle.cycle.specs.Step.{stepOn}
 use Rattle.run.specs.View.{bookState}
 
 -- a call, with what is lent to it beside the state memory
@@ -63,8 +66,8 @@ pub data Role : Type 0 where
   resets : Role
 
 abbrev pub role : Asked → Role
-role (offer flow) = feeds (BookCalls.offer flow) []
-role (step delivery) = feeds (BookCalls.step (length delivery)) delivery
+role (offer flow) = feeds (Feed.offer flow) []
+role (step delivery) = feeds (Feed.step (length delivery)) delivery
 role (write notes target) = between (λ p b. bytesOn (planBytes notes p)) target
 role (reset file) = resets
 

@@ -15,7 +15,7 @@ use Rattle.state.specs.Layout.{headerSize, flowSize, registerSize, flowP
 use Rattle.state.specs.State.{cellAt}
 use Rattle.state.specs.Words.{headerWords, flowWords, registerWords, cellWords}
 use Rattle.state.specs.Read.{sxIn, syIn, countIn, clockIn, flowIn, tallyIn, registerIn, cellIn, routerIn, planIn, stateOf}
-use Rattle.state.specs.Calls.{planSize}
+use Rattle.state.specs.Layout.{planSize}
 use Rattle.state.proofs.Words.{length-register, router-below}
 use Rattle.state.proofs.Holds.{HoldsState}
 use Rattle.state.proofs.View.{view-count, view-size, view-flow, view-tally, view-cell}

@@ -21,7 +21,7 @@ use Rattle.state.specs.Layout.{headerSize, clockPlace, zerosPlace, flowS
 use Rattle.state.specs.State.{State, tallyAt, cellAt}
 use Rattle.state.specs.Words.{headerWords, numberWords, tallyWords, flowWords, cellWords, stateWords}
 use Rattle.state.specs.Outcome.{over}
-use Rattle.state.specs.Calls.{planSize}
+use Rattle.state.specs.Layout.{planSize}
 use Rattle.state.proofs.Words.{header, flows, cells, length-cell, length-words, front-length}
 use Rattle.state.proofs.Over.{over-is}
 

@@ -9,7 +9,7 @@ use Rattle.flow.specs.Plan.{flowAt, noFlow}
 use Rattle.state.specs.Layout.{flowPlace}
 use Rattle.state.specs.State.{tallyAt, cellAt, freshTally, emptyCell}
 use Rattle.state.specs.Read.{sxIn, syIn, countIn, flowIn, tallyIn, cellIn, routerIn, planIn, stateOf}
-use Rattle.state.specs.Calls.{planSize}
+use Rattle.state.specs.Layout.{planSize}
 use Rattle.state.specs.Forms.{sizeIn}
 use Rattle.state.proofs.Read.{Sized}
 

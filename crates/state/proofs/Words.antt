@@ -14,7 +14,7 @@ use Rattle.state.specs.declared.Cell.{Cell}
 use Rattle.state.specs.Layout.{flowSize, registerSize, routerSize, flowPlace, routerPlace, stateSize}
 use Rattle.state.specs.State.{State, tallyAt, cellAt}
 use Rattle.state.specs.Words.{headerWords, flowWords, registerWords, cellWords, stateWords}
-use Rattle.state.specs.Calls.{planSize}
+use Rattle.state.specs.Layout.{planSize}
 
 -- a router's registers lie behind the flows, within the size
 pub router-below : (F sx sy x y : ℕ) → x < sx → y < sy → routerPlace F sx x y + routerSize ≤ stateSize F sx sy

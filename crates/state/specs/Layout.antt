@@ -1,7 +1,8 @@
 -- The layout of state memory: where its words stand, and its size (01, State memory).
 use Prim.Native.Nat.{ℕ, _+_, _*_}
+use lib.ListN.{length}
 use Rattle.laws.specs.Grid.{cellIndex}
-use Rattle.flow.specs.Plan.{mostSize}
+use Rattle.flow.specs.Plan.{Plan, mostSize}
 
 -- Sx, Sy, F, clock, four zeros
 abbrev pub headerSize : ℕ
@@ -45,3 +46,7 @@ routerPlace F sx x y = flowPlace F + routerSize * cellIndex sx x y
 -- 8 + 10×F + 8×Sx×Sy
 abbrev pub stateSize : (F sx sy : ℕ) → ℕ
 stateSize F sx sy = flowPlace F + routerSize * (sx * sy)
+
+-- the words that a plan's state takes
+abbrev pub planSize : Plan → ℕ
+planSize p = stateSize (length (p .flows)) (p .sx) (p .sy)

@@ -5,4 +5,5 @@ pub mod Words
 pub mod Read
 pub mod Forms
 pub mod Outcome
-pub mod Calls
+pub mod Reset
+pub mod Writing

@@ -14,7 +14,8 @@ use Rattle.plan.proofs.Written.{written-back}
 use Rattle.state.specs.Read.{planIn}
 use Rattle.state.specs.Forms.{stateNumber}
 use Rattle.state.specs.Outcome.{outcome, unless, over}
-use Rattle.state.specs.Calls.{resetOn, writeOn}
+use Rattle.state.specs.Reset.{resetOn}
+use Rattle.state.specs.Writing.{writeOn}
 use Rattle.reset.proofs.Accepted.{accepted, reset-forms, reset-plan}
 
 -- any words that form a state with an accepted file's plan numbers give that file, whatever their clock, tallies and registers

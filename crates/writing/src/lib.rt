@@ -1,4 +1,4 @@
-// Writing: a plan file from a state and lent notes. Rests on plan, state and forms.
+// Writing: a plan file from a state and lent notes. Rests on plan, state and valid.
 use flow::Flow;
 use plan::Answer;
 ghost use mathlib.Core.List.{[], _∷_, _++_};
@@ -12,7 +12,7 @@ ghost use Rattle.plan.specs.Bytes.{twoBytes, fourBytes};
 ghost use Rattle.plan.specs.Written.{recordBytes, planBytes};
 ghost use Rattle.state.specs.Read.{countIn, planIn};
 ghost use Rattle.state.specs.Outcome.{outcome, over};
-ghost use Rattle.state.specs.Calls.{bytesOn, writeOn};
+ghost use Rattle.state.specs.Writing.{bytesOn, writeOn};
 ghost use Rattle.state.proofs.Forms.{StateFacts};
 ghost use Rattle.writing.specs.Parts.{recordsIn, trailerOf, fileSize};
 
@@ -162,7 +162,7 @@ fn write_accepted(state: &[u32], notes: &[u8], target: &mut [u8]) -> Answer
 pub fn write(state: &[u32], notes: &[u8], target: &mut [u8]) -> Answer
     ensures { λ r. ⌜ outcome r (now (target .exit)) ≡ writeOn (now (state .entry)) (now (notes .entry)) (now (target .entry)) ⌝ }
 {
-    let number = forms::state_number(state);
+    let number = valid::state_number(state);
     if number != 0 {
         return Answer::Refused { number, place: 0 };
     }

@@ -8,7 +8,7 @@ use Rattle.plan.specs.Layout.{planOf}
 use Rattle.plan.specs.Refusals.{planAnswer}
 use Rattle.plan.proofs.Accepted.{done-trailed}
 use Rattle.plan.proofs.Ranges.{plan-count}
-use Rattle.bounds.specs.Calls.{asked}
+use Rattle.bounds.specs.Bounds.{asked}
 use Rattle.bounds.proofs.ask.Statement.{statement}
 use Rattle.bounds.proofs.ask.Tie as tie
 

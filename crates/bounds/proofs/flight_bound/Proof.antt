@@ -3,7 +3,7 @@ use borrow.Author.Needs.{needs}
 use mathlib.Core.Path.{sym, ap, _∙_}
 use Rattle.plan.specs.declared.Answer.the-variants.{Done}
 use Rattle.plan.proofs.Accepted.{done-trailed}
-use Rattle.bounds.specs.Calls.{flightBoundAnswer}
+use Rattle.bounds.specs.Bounds.{flightBoundAnswer}
 use Rattle.bounds.proofs.Asked.{Known, asked-refused, asked-done, known-flow}
 use Rattle.bounds.proofs.flight_bound.Statement.{statement}
 use Rattle.bounds.proofs.flight_bound.Tie as tie

@@ -2,7 +2,7 @@
 use borrow.Author.Needs.{needs}
 use mathlib.Core.Path.{sym, _∙_}
 use Rattle.plan.proofs.Accepted.{done-trailed}
-use Rattle.bounds.specs.Calls.{windowAnswer}
+use Rattle.bounds.specs.Bounds.{windowAnswer}
 use Rattle.bounds.proofs.Asked.{Known, asked-refused, asked-done, known-flow}
 use Rattle.bounds.proofs.window.Statement.{statement}
 use Rattle.bounds.proofs.window.Tie as tie

@@ -15,7 +15,7 @@ use Rattle.state.specs.Forms.{stateNumber}
 use Rattle.state.proofs.View.{view-plan, view-count}
 use Rattle.state.proofs.Forms.{state-facts}
 use Rattle.state.proofs.Over.{unless-passes, unless-refuses}
-use Rattle.cycle.specs.Calls.{offerOn}
+use Rattle.cycle.specs.Offer.{offerOn}
 use Rattle.engine.proofs.offer.Statement.{statement}
 use Rattle.engine.proofs.offer.Tie as tie
 

@@ -15,7 +15,7 @@ use Rattle.state.specs.Read.{sxIn, syIn, clockIn, planIn, stateOf}
 use Rattle.state.specs.Forms.{stateNumber}
 use Rattle.state.proofs.Forms.{state-facts}
 use Rattle.state.proofs.Over.{unless-passes, unless-refuses}
-use Rattle.cycle.specs.Calls.{stepOn}
+use Rattle.cycle.specs.Step.{stepOn}
 use Rattle.engine.proofs.step.Statement.{statement}
 use Rattle.engine.proofs.step.Tie as tie
 

@@ -2,7 +2,7 @@
 use mathlib.Core.Path.{sym, _∙_}
 use borrow.Author.Needs.{needs}
 use Rattle.state.specs.Outcome.{unlessRefused}
-use Rattle.state.specs.Calls.{resetOn}
+use Rattle.state.specs.Reset.{resetOn}
 use Rattle.reset.proofs.Fresh.{done-number}
 use Rattle.reset.proofs.reset.Statement.{statement}
 use Rattle.reset.proofs.reset.Tie as tie

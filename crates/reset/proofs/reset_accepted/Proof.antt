@@ -5,7 +5,7 @@ use borrow.Author.Tests.{lt-ltb, le-ltb}
 use lib.ListN.{length}
 use Rattle.plan.specs.Layout.{planOf}
 use Rattle.plan.proofs.Accepted.{Framed, trailed}
-use Rattle.state.specs.Calls.{planSize}
+use Rattle.state.specs.Layout.{planSize}
 use Rattle.reset.proofs.Fresh.{size-is}
 use Rattle.reset.proofs.reset_accepted.Statement.{statement}
 use Rattle.reset.proofs.reset_accepted.Tie as tie

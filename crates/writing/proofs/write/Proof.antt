@@ -2,7 +2,7 @@
 use mathlib.Core.Path.{_≡_, sym, _∙_}
 use borrow.Author.Needs.{needs}
 use Rattle.state.specs.Forms.{stateNumber}
-use Rattle.state.specs.Calls.{writeOn}
+use Rattle.state.specs.Writing.{writeOn}
 use Rattle.state.proofs.Forms.{state-facts}
 use Rattle.state.proofs.Over.{unless-passes, unless-refuses}
 use Rattle.writing.proofs.write.Statement.{statement}
