@@ -50,10 +50,9 @@ advance-in-requires-3 c κs =
 
 pub advance-spec : {M : Type 1} → statement M
 advance-spec =
-    tie.close (tie.spec slice-read-routers slice-read-routers-2 mul-routers
-    (λ c. search needs) (λ c. search needs) advance-in-requires (λ c. search needs) (λ c. search needs)
-    (λ c. c .before .before .before .before .before .before .advance-in .ensures)
+    tie.close (tie.spec slice-read-routers slice-read-routers-2 mul-routers (λ c. search needs) (λ c. search needs) advance-in-requires
+    (λ c. search needs) (λ c. search needs) (λ c. c .before .before .before .before .before .before .advance-in .ensures)
     (λ c. search needs) (λ c. search needs) advance-in-requires-2 (λ c. search needs) (λ c. search needs)
-    (λ c. c .before .before .before .before .before .before .advance-in2 .ensures)
-    (λ c. search needs) (λ c. search needs) advance-in-requires-3 (λ c. search needs) (λ c. search needs)
+    (λ c. c .before .before .before .before .before .before .advance-in2 .ensures) (λ c. search needs) (λ c. search needs)
+    advance-in-requires-3 (λ c. search needs) (λ c. search needs)
     (λ c. c .before .before .before .before .before .before .advance-in3 .ensures))

@@ -11,4 +11,5 @@ route-all-requires c κs =
 
 pub find-next-spec : {M : Type 1} → statement M
 find-next-spec =
-    tie.close (tie.spec (λ c κs. search needs) route-all-requires (λ c. search needs) (λ c. search needs) (λ c. search needs) (λ c. search needs))
+    tie.close (tie.spec (λ c κs. search needs) route-all-requires (λ c. search needs) (λ c. search needs) (λ c. search needs)
+    (λ c. search needs))

@@ -74,5 +74,5 @@ returns-3 c =
 
 pub step-spec : {M : Type 1} → statement M
 step-spec =
-    tie.close (tie.spec (λ c κs. search needs) (λ c. search needs) returns step-number-requires (λ c. search needs) (λ c. search needs) returns-2
-    advance-requires (λ c. search needs) (λ c. search needs) returns-3)
+    tie.close (tie.spec (λ c κs. search needs) (λ c. search needs) returns step-number-requires (λ c. search needs) (λ c. search needs)
+    returns-2 advance-requires (λ c. search needs) (λ c. search needs) returns-3)

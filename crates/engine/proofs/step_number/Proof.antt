@@ -25,5 +25,5 @@ returns-3 c = rw (le-ltb _ _ (c .before .before .if1 .left), ne-eqb _ _ (c .if2 
 
 pub step-number-spec : {M : Type 1} → statement M
 step-number-spec =
-    tie.close (tie.spec (λ c. search needs) (λ c. search needs) mul-routers (λ c. search needs) (λ c. search needs)
-    returns (λ c. search needs) returns-2 returns-3)
+    tie.close (tie.spec (λ c. search needs) (λ c. search needs) mul-routers (λ c. search needs) (λ c. search needs) returns
+    (λ c. search needs) returns-2 returns-3)

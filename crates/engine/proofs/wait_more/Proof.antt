@@ -37,5 +37,4 @@ returns c =
     ∙ offered-over _ (state-facts _ (start .pre .0)) (start .args .f) (start .pre .1) _ _ (put .before .flow-place .ensures) (rw (tally .tally-at .ensures))
 
 pub wait-more-spec : {M : Type 1} → statement M
-wait-more-spec =
-    tie.close (tie.spec tally-at-requires add-t8 flow-place-requires put-tally-requires (λ c. search needs) returns)
+wait-more-spec = tie.close (tie.spec tally-at-requires add-t8 flow-place-requires put-tally-requires (λ c. search needs) returns)

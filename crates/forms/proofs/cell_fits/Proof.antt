@@ -38,14 +38,5 @@ returns-2 c =
 
 pub cell-fits-spec : {M : Type 1} → statement M
 cell-fits-spec =
-    tie.close
-    (tie.spec
-    (λ c. search needs)
-    (λ c. search needs)
-    (λ c. search needs)
-    (λ c κs. search needs)
-    register-fits-requires
-    returns
-    (λ c. omega (arith, room (c .before .before)))
-    register-fits-requires-2
-    returns-2)
+    tie.close (tie.spec (λ c. search needs) (λ c. search needs) (λ c. search needs) (λ c κs. search needs) register-fits-requires returns
+    (λ c. omega (arith, room (c .before .before))) register-fits-requires-2 returns-2)

@@ -2,7 +2,7 @@
 use mathlib.Core.Path.{_≡_, _∙_}
 use Rattle.laws.proofs.Cases.{told-not, told-not′}
 use Rattle.state.specs.Layout.{flowPlace}
-use Rattle.state.specs.Read.{flowIn, tallyIn}
+use Rattle.state.specs.Read.{flowIn}
 use Rattle.state.specs.Forms.{flowFits}
 use borrow.Author.Needs.{needs}
 use Rattle.forms.proofs.flow_fits.Statement.{statement}
@@ -27,15 +27,5 @@ returns-2 c =
 
 pub flow-fits-spec : {M : Type 1} → statement M
 flow-fits-spec =
-    tie.close
-    (tie.spec
-    (λ c κs. search needs)
-    (λ c κs. search needs)
-    (λ c. search needs)
-    (λ c. search needs)
-    (λ c κs. search needs)
-    returns
-    (λ c. search needs)
-    (λ c κs. search needs)
-    (λ c κs. search needs)
-    returns-2)
+    tie.close (tie.spec (λ c κs. search needs) (λ c κs. search needs) (λ c. search needs) (λ c. search needs) (λ c κs. search needs)
+    returns (λ c. search needs) (λ c κs. search needs) (λ c κs. search needs) returns-2)

@@ -37,16 +37,5 @@ returns-2 c =
 
 pub flows-fit-spec : {M : Type 1} → statement M
 flows-fit-spec =
-    tie.close
-    (tie.spec
-    Inv-loop
-    μ-loop
-    (λ c. search needs)
-    (λ c. search needs)
-    (λ c. (omega arith, (omega arith, all-none _)))
-    flow-fits-requires
-    returns
-    (λ c. omega arith)
-    (λ c. omega arith)
-    loop-again
-    returns-2)
+    tie.close (tie.spec Inv-loop μ-loop (λ c. search needs) (λ c. search needs) (λ c. (omega arith, (omega arith, all-none _)))
+    flow-fits-requires returns (λ c. omega arith) (λ c. omega arith) loop-again returns-2)

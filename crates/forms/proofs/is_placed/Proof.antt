@@ -18,13 +18,5 @@ returns-2 c = rw (lt-ltb _ _ (c .before .before .before .before .if1 .left), ←
 
 pub is-placed-spec : {M : Type 1} → statement M
 is-placed-spec =
-    tie.close
-    (tie.spec
-    (λ c. search needs)
-    returns
-    (λ c. search needs)
-    (λ c. search needs)
-    (λ c κs. search needs)
-    (λ c. search needs)
-    in-place-requires
-    returns-2)
+    tie.close (tie.spec (λ c. search needs) returns (λ c. search needs) (λ c. search needs) (λ c κs. search needs) (λ c. search needs)
+    in-place-requires returns-2)

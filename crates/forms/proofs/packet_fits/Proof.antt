@@ -41,13 +41,5 @@ returns-3 c =
 
 pub packet-fits-spec : {M : Type 1} → statement M
 packet-fits-spec =
-    tie.close
-    (tie.spec
-    (λ c. search needs)
-    returns
-    (λ c κs. search needs)
-    (λ c κs. search needs)
-    (λ c κs. search needs)
-    returns-2
-    is-placed-requires
-    returns-3)
+    tie.close (tie.spec (λ c. search needs) returns (λ c κs. search needs) (λ c κs. search needs) (λ c κs. search needs) returns-2
+    is-placed-requires returns-3)

@@ -14,12 +14,5 @@ returns-2 c = rw (← (c .before .before .before .before .register-at .ensures),
 
 pub register-fits-spec : {M : Type 1} → statement M
 register-fits-spec =
-    tie.close
-    (tie.spec
-    (λ c κs. search needs)
-    (λ c. search needs)
-    (λ c κs. search needs)
-    (λ c. search needs)
-    (λ c κs. search needs)
-    returns
-    returns-2)
+    tie.close (tie.spec (λ c κs. search needs) (λ c. search needs) (λ c κs. search needs) (λ c. search needs) (λ c κs. search needs)
+    returns returns-2)

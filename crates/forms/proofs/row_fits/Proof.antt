@@ -33,15 +33,6 @@ returns-2 c =
 
 pub row-fits-spec : {M : Type 1} → statement M
 row-fits-spec =
-    tie.close
-    (tie.spec
-    Inv-loop
-    μ-loop
-    (λ c. search needs)
-    (λ c. (omega arith, (omega arith, all-none _)))
+    tie.close (tie.spec Inv-loop μ-loop (λ c. search needs) (λ c. (omega arith, (omega arith, all-none _)))
     (λ c κs. record { fit = c .before .before .before .before .pre .0; column = omega arith; row = c .before .before .before .before .pre .1 })
-    returns
-    (λ c. omega (arith, c .before .before .before .before .shared-slice-known2 .given 0))
-    (λ c. omega arith)
-    loop-again
-    returns-2)
+    returns (λ c. omega (arith, c .before .before .before .before .shared-slice-known2 .given 0)) (λ c. omega arith) loop-again returns-2)

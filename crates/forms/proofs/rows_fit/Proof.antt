@@ -33,15 +33,6 @@ returns-2 c =
 
 pub rows-fit-spec : {M : Type 1} → statement M
 rows-fit-spec =
-    tie.close
-    (tie.spec
-    Inv-loop
-    μ-loop
-    (λ c. search needs)
-    (λ c. (omega arith, (omega arith, all-none _)))
-    (λ c κs. (c .before .before .before .before .pre, omega arith))
-    returns
-    (λ c. omega (arith, c .before .before .before .before .shared-slice-known2 .given 1))
-    (λ c. omega arith)
-    loop-again
-    returns-2)
+    tie.close (tie.spec Inv-loop μ-loop (λ c. search needs) (λ c. (omega arith, (omega arith, all-none _)))
+    (λ c κs. (c .before .before .before .before .pre, omega arith)) returns
+    (λ c. omega (arith, c .before .before .before .before .shared-slice-known2 .given 1)) (λ c. omega arith) loop-again returns-2)

@@ -1,12 +1,10 @@
 -- `state_number`: the definition's own tests, in its order.
 use mathlib.Core.Bool.{true, cond, not}
 use mathlib.Core.List.{List}
-use mathlib.Core.Path.{_≡_, sym}
-use Prim.Native.Nat.{ℕ, _≤_}
-use lib.ListN.{length}
+use mathlib.Core.Path.{_≡_}
+use Prim.Native.Nat.{ℕ}
 use Rattle.laws.proofs.Bounded.{all-at}
-use Rattle.state.specs.Read.{countIn}
-use Rattle.state.specs.Forms.{headerFits, flowFits, restFits, sizeIn, stateNumber}
+use Rattle.state.specs.Forms.{headerFits, flowFits, restFits, stateNumber}
 use Rattle.state.proofs.Forms.{Headed, header-facts, flow-facts}
 use borrow.Author.Tests.{lt-ltb, le-ltb}
 use Rattle.laws.proofs.Cases.{told-not, told-not′}
@@ -77,15 +75,5 @@ returns-6 c =
 
 pub state-number-spec : {M : Type 1} → statement M
 state-number-spec =
-    tie.close
-    (tie.spec
-    returns
-    (λ c κs. search needs)
-    returns-2
-    (λ c κs. (c .before .before .if1 .left, header-facts _ (header c)))
-    returns-3
-    (λ c κs. headed c)
-    returns-4
-    rows-fit-requires
-    returns-5
-    returns-6)
+    tie.close (tie.spec returns (λ c κs. search needs) returns-2 (λ c κs. (c .before .before .if1 .left, header-facts _ (header c)))
+    returns-3 (λ c κs. headed c) returns-4 rows-fit-requires returns-5 returns-6)

@@ -54,15 +54,5 @@ returns c =
 
 pub put-reset-spec : {M : Type 1} → statement M
 put-reset-spec =
-    tie.close
-    (tie.spec
-    (λ c. search needs)
-    (λ c κs. search needs)
-    (λ c. search needs)
-    put-flows-requires
-    (λ c κs. search needs)
-    mul-clear
-    cast-clear
-    clear-requires
-    (λ c. search needs)
-    returns)
+    tie.close (tie.spec (λ c. search needs) (λ c κs. search needs) (λ c. search needs) put-flows-requires (λ c κs. search needs) mul-clear
+    cast-clear clear-requires (λ c. search needs) returns)

@@ -22,12 +22,5 @@ returns-2 c = rw (← (c .before .before .before .answer-of .ensures), c .before
 
 pub reset-spec : {M : Type 1} → statement M
 reset-spec =
-    tie.close
-    (tie.spec
-    (λ c κs. search needs)
-    (λ c. search needs)
-    reset-accepted-requires
-    (λ c. search needs)
-    (λ c. search needs)
-    returns
+    tie.close (tie.spec (λ c κs. search needs) (λ c. search needs) reset-accepted-requires (λ c. search needs) (λ c. search needs) returns
     returns-2)

@@ -1,6 +1,5 @@
 -- `reset_accepted`: the size decides 8; the reset state is written.
 use mathlib.Core.Path.{_≡_, _∙_}
-use native.Mathlib.Omega.{arith}
 use borrow.Author.Needs.{needs}
 use borrow.Author.Tests.{lt-ltb, le-ltb}
 use lib.ListN.{length}
@@ -35,12 +34,6 @@ returns-2 c =
 
 pub reset-accepted-spec : {M : Type 1} → statement M
 reset-accepted-spec =
-    tie.close
-    (tie.spec
-    (λ c κs. trailed _ (c .before .before .pre) .long)
-    (λ c. search needs)
-    (λ c κs. let f = framed (c .before) in (f .count-most, (f .sx-ok .most, f .sy-ok .most)))
-    returns
-    put-reset-requires
-    (λ c. search needs)
-    returns-2)
+    tie.close (tie.spec (λ c κs. trailed _ (c .before .before .pre) .long) (λ c. search needs)
+    (λ c κs. let f = framed (c .before) in (f .count-most, (f .sx-ok .most, f .sy-ok .most))) returns put-reset-requires
+    (λ c. search needs) returns-2)

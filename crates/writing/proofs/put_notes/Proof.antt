@@ -39,15 +39,5 @@ returns c =
 
 pub put-notes-spec : {M : Type 1} → statement M
 put-notes-spec =
-    tie.close
-    (tie.spec
-    Inv-loop
-    μ-loop
-    (λ c. (omega arith, (refl, (refl, refl))))
-    (λ c. omega arith)
-    (λ c. omega arith)
-    (λ c. omega arith)
-    (λ c. omega arith)
-    loop-again
-    (λ c. c .before .loop .inv .1 .1 .0)
-    returns)
+    tie.close (tie.spec Inv-loop μ-loop (λ c. (omega arith, (refl, (refl, refl)))) (λ c. omega arith) (λ c. omega arith)
+    (λ c. omega arith) (λ c. omega arith) loop-again (λ c. c .before .loop .inv .1 .1 .0) returns)

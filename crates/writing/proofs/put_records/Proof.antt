@@ -63,6 +63,5 @@ returns c =
 
 pub put-records-spec : {M : Type 1} → statement M
 put-records-spec =
-    tie.close (tie.spec Inv-loop μ-loop (λ c. (omega arith, (refl, refl))) (λ c. omega arith) (λ c. omega arith)
-    flow-place-requires flow-in-requires put-record-requires (λ c. omega arith) (λ c. omega arith)
-    loop-again (λ c. c .before .loop .inv .1 .0) returns)
+    tie.close (tie.spec Inv-loop μ-loop (λ c. (omega arith, (refl, refl))) (λ c. omega arith) (λ c. omega arith) flow-place-requires
+    flow-in-requires put-record-requires (λ c. omega arith) (λ c. omega arith) loop-again (λ c. c .before .loop .inv .1 .0) returns)
