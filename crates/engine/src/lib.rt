@@ -136,7 +136,7 @@ fn offer_number(state: &[u32], f: u32) -> u32
     requires { ⌜ StateFacts (now state) ⌝ }
     ensures { λ r. ⌜ r ≡ offerNumber ((stateOf (now (state .entry))) .plan) f ((tallyAt (stateOf (now (state .entry))) f) .waiting) ⌝ }
 {
-    if state[2] <= f {
+    if state[state::FLOWS] <= f {
         return 12;
     }
     let t = cycle::tally_at(state, f);
@@ -170,11 +170,11 @@ fn step_number(state: &[u32], delivery: &[u32]) -> u32
     requires { ⌜ StateFacts (now state) ⌝ }
     ensures { λ r. ⌜ r ≡ stepNumber ((stateOf (now (state .entry))) .plan) (length (now (delivery .entry))) ((stateOf (now (state .entry))) .clock) ⌝ }
 {
-    let routers = (state[0] * state[1]) as usize;
-    if delivery.len() < 5 * routers {
+    let routers = (state[state::SX] * state[state::SY]) as usize;
+    if delivery.len() < routing::EXIT_SIZE * routers {
         return 10;
     }
-    if state[3] == state::LAST_CLOCK {
+    if state[state::CLOCK] == state::LAST_CLOCK {
         return 11;
     }
     0
