@@ -7,11 +7,13 @@ use Prim.Native.Nat.{ℕ, _-_, _*_, _≤_, _<_}
 use native.Mathlib.Omega.{arith}
 use borrow.Author.Tests.{ltb-true, ltb-false}
 use lib.Dec.{ltb}
-use lib.ListN.{length, take, drop, take-append-drop}
+use lib.ListN.{length, getD, take, drop, take-append-drop}
 use lib.Seq.{take-at}
 use Rattle.laws.proofs.Cases.{test}
-use Rattle.flow.specs.Plan.{Plan}
+use Rattle.flow.specs.Plan.{Plan, PlanOk}
+use Rattle.flow.specs.Limits.{exitSize}
 use Rattle.plan.specs.declared.Answer.{Answer}
+use Rattle.plan.specs.declared.Answer.the-variants.{Done, Refused}
 use Rattle.plan.specs.Layout.{planOf}
 use Rattle.plan.proofs.Ranges.{plan-ok}
 use Rattle.book.specs.Book.{Book, start}
@@ -35,12 +37,27 @@ use Rattle.cycle.specs.Offer.{offerOn}
 use Rattle.cycle.specs.Step.{stepOn}
 use Rattle.run.specs.List.{Asked, offer, step, write, reset, onWords, Item, onMemory, memoryAfter, Role, feeds, between, resets, role, tooLittle, roleIn}
 use Rattle.run.specs.List.{MayCome, IsList, fedAs, fed, beside, outcomes, bookMemory, due, expected}
-use Rattle.run.specs.List.{fedOutcomes, wordCount, deliveredBy, EveryList}
+use Rattle.run.specs.List.{Follows, EveryList}
 use Rattle.run.specs.View.{bookState}
 use Rattle.run.proofs.Offer.{start-follows}
 use Rattle.run.proofs.Memory.{image, image-part, image-rest, number, short}
 use Rattle.run.proofs.Calls.{offer-on, step-on, write-on}
 use Rattle.run.proofs.Reset.{reset-refused}
+
+-- the outcomes of the fed calls, in order
+abbrev fedOutcomes : Plan → (memory : List ℕ) → List Item → List (Outcome Answer (List ℕ))
+fedOutcomes p memory [] = []
+fedOutcomes p memory (i ∷ is) =
+    map (λ call. beside (onMemory memory i)) (fedAs (roleIn p i)) ++ fedOutcomes p ((onMemory memory i) .memory .state) is
+
+-- five words for each exit that a call answers
+abbrev wordCount : Answer → ℕ
+wordCount (Done count) = exitSize * count
+wordCount (Refused number place) = 0
+
+abbrev deliveredBy : List (Outcome Answer (List ℕ)) → List ℕ
+deliveredBy [] = []
+deliveredBy (o ∷ os) = take (wordCount (o .answer)) (o .memory) ++ deliveredBy os
 
 abbrev answers : List (Outcome Answer (List ℕ)) → List Answer
 answers os = map (λ (o : Outcome Answer (List ℕ)). o .answer) os
@@ -159,20 +176,38 @@ module _ (p : Plan) (words : List ℕ) where
       (map (λ call. beside o) (fedAs r) ++ fedOutcomes p (o .memory .state) is) (memoryAfter (o .memory .state) is) (runFrom p b (fed p (i ∷ is))))
       (sym d) (then b i r (fed p is) later)
 
+module _ (file words : List ℕ) (bytes : (i : ℕ) → getD file i 0 < 256) (done : (resetOn file words) .answer ≡ Done 0) where
+  abbrev plan : Plan
+  plan = planOf file
+
+  fits : PlanOk plan
+  fits = let a = accepted file words done in plan-ok file (a .value) (a .file-done) bytes
+
+  begun : (resetOn file words) .memory ≡ bookMemory plan (start plan) words
+  begun =
+      leaves file words bytes done ∙ (λ i. stateWords (sym (start-follows plan) i) ++ drop (length-words (resetState plan) i) words)
+
+  goes : (is : List Item) → IsList ((resetOn file words) .memory) is → Goes plan words (start plan) ((resetOn file words) .memory) is
+  goes is l =
+      subst (λ m. Goes plan words (start plan) m is) (sym begun)
+      (follow plan words is (start plan) (kept-start plan fits) (subst (λ m. IsList m is) begun l))
+
+  -- the fed calls' answers, and the words that the steps delivered, one after the other, are those of the book's run
+  pub in-order : (is : List Item) → IsList ((resetOn file words) .memory) is → let outs = fedOutcomes plan ((resetOn file words) .memory) is in
+      (answers outs ≡ (run plan (fed plan is)) .replies) × (deliveredBy outs ≡ wordsOf ((run plan (fed plan is)) .delivered))
+  in-order is l = (goes is l .replied, goes is l .delivered)
+
+  follows : (is : List Item) → IsList ((resetOn file words) .memory) is → Follows plan words ((resetOn file words) .memory) is
+  follows is l =
+      record {
+        answered = goes is l .answered;
+        state = goes is l .state;
+        formed =
+            ap stateNumber (goes is l .state)
+            ∙ number plan (run plan (fed plan is) .book) (drop (planSize plan) words) (kept-run plan fits (fed plan is));
+        promised = promises plan fits (fed plan is);
+      }
+
 -- for every plan file that reset accepts, every state memory of at least its size and every list of calls
 pub every-list : EveryList
-every-list file words bytes done is l =
-    let a = accepted file words done in
-    let p = planOf file in
-    let ok = plan-ok file (a .value) (a .file-done) bytes in
-    let begun : (resetOn file words) .memory ≡ bookMemory p (start p) words =
-    leaves file words bytes done ∙ (λ i. stateWords (sym (start-follows p) i) ++ drop (length-words (resetState p) i) words) in
-    let g = subst (λ m. Goes p words (start p) m is) (sym begun) (follow p words is (start p) (kept-start p ok) (subst (λ m. IsList m is) begun l)) in
-    record {
-      answered = g .answered;
-      replied = g .replied;
-      delivered = g .delivered;
-      state = g .state;
-      formed = ap stateNumber (g .state) ∙ number p (run p (fed p is) .book) (drop (planSize p) words) (kept-run p ok (fed p is));
-      promised = promises p ok (fed p is);
-    }
+every-list = follows

@@ -2,13 +2,12 @@
 -- every word of the state are the packet book's (01, The packet book).
 -- A later request's call is one case more of `Asked`, `onWords` and `role`; all else is said of any call.
 use mathlib.Core.Bool.{cond}
-use mathlib.Core.List.{List, [], _∷_, _++_, map}
+use mathlib.Core.List.{List, [], _∷_, _++_}
 use mathlib.Core.Path.{_≡_}
-use Prim.Native.Nat.{ℕ, _*_, _<_}
+use Prim.Native.Nat.{ℕ, _<_}
 use lib.Dec.{ltb}
 use lib.ListN.{length, getD, take, drop}
 use Rattle.flow.specs.Plan.{Plan}
-use Rattle.flow.specs.Limits.{exitSize}
 use Rattle.plan.specs.declared.Answer.{Answer}
 use Rattle.plan.specs.declared.Answer.the-variants.{Done, Refused}
 use Rattle.plan.specs.Layout.{planOf}
@@ -124,28 +123,10 @@ abbrev pub expected : Plan → Book → (words : List ℕ) → List Item → Lis
 expected p b words [] = []
 expected p b words (i ∷ is) = due p b words i (roleIn p i) ∷ expected p ((runFrom p b (fedAs (roleIn p i))) .book) words is
 
--- the outcomes of the fed calls, in order
-abbrev pub fedOutcomes : Plan → (memory : List ℕ) → List Item → List (Outcome Answer (List ℕ))
-fedOutcomes p memory [] = []
-fedOutcomes p memory (i ∷ is) =
-    map (λ call. beside (onMemory memory i)) (fedAs (roleIn p i)) ++ fedOutcomes p ((onMemory memory i) .memory .state) is
-
--- five words for each exit that a call answers
-abbrev pub wordCount : Answer → ℕ
-wordCount (Done count) = exitSize * count
-wordCount (Refused number place) = 0
-
-abbrev pub deliveredBy : List (Outcome Answer (List ℕ)) → List ℕ
-deliveredBy [] = []
-deliveredBy (o ∷ os) = take (wordCount (o .answer)) (o .memory) ++ deliveredBy os
-
 -- what a list comes to, from the state memory that an accepted reset of plan p left of the lent words
 pub record Follows (p : Plan) (words memory : List ℕ) (is : List Item) : Type 0 where
-  -- each call's answer, and what was lent to it beside the state memory, are the book's
+  -- each call's answer and the words that the steps delivered, in order, are the book's
   pub answered : outcomes memory is ≡ expected p (start p) words is
-  -- so are the fed calls' answers and the words that the steps delivered, in order
-  pub replied : map (λ (o : Outcome Answer (List ℕ)). o .answer) (fedOutcomes p memory is) ≡ (run p (fed p is)) .replies
-  pub delivered : deliveredBy (fedOutcomes p memory is) ≡ wordsOf ((run p (fed p is)) .delivered)
   -- so is every word of the state; words past its size are as lent
   pub state : memoryAfter memory is ≡ bookMemory p ((run p (fed p is)) .book) words
   -- these words form a state: 9 never comes up, and 8 only for too little of them
