@@ -14,7 +14,8 @@ use Rattle.laws.proofs.Cases.{test, and-true, both-eqb}
 use Rattle.laws.proofs.Count.{count-find, count-map, count-mono, count-more}
 use Rattle.flow.specs.declared.Flow.{Flow}
 use Rattle.flow.specs.Offsets.{portOf, sameClient}
-use Rattle.flow.specs.Plan.{Plan, flowAt, FlowOk}
+use Rattle.flow.specs.Plan.{Plan, flowAt}
+use Rattle.flow.specs.Ranges.{FlowOk}
 use Rattle.place.specs.Place.{Place, W, N, columnOf, rowOf}
 use Rattle.router.specs.Rule.{isOpen, ready, Way, wayIn}
 use Rattle.router.proofs.Links.{place-same}

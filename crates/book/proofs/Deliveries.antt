@@ -14,7 +14,8 @@ use Rattle.laws.proofs.Cases.{test, eqb-swap}
 use Rattle.laws.proofs.Sum.{sum-same}
 use Rattle.laws.proofs.Count.{count-map, count-same, count-sum, count-keep, count-join, count-split}
 use Rattle.flow.specs.declared.Flow.{Flow}
-use Rattle.flow.specs.Plan.{Plan, flowAt, FlowOk, PlanOk}
+use Rattle.flow.specs.Plan.{Plan, flowAt}
+use Rattle.flow.specs.Ranges.{FlowOk, PlanOk}
 use Rattle.router.specs.Rule.{Way, via, leave}
 use Rattle.router.specs.Delivery.{Delivery}
 use Rattle.book.specs.Line.{Stage, waiting, placed, left, Line, isLeft, leftAt, entryOf, exitOf}

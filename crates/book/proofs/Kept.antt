@@ -14,7 +14,8 @@ use lib.ListN.{length}
 use Rattle.laws.specs.Count.{count}
 use Rattle.laws.proofs.Cases.{test, and-true}
 use Rattle.laws.proofs.Count.{one-most, count-map, count-append, count-mono}
-use Rattle.flow.specs.Plan.{Plan, flowAt, PlanOk}
+use Rattle.flow.specs.Plan.{Plan, flowAt}
+use Rattle.flow.specs.Ranges.{PlanOk}
 use Rattle.window.specs.Window.{interference}
 use Rattle.router.specs.Delivery.{Delivery}
 use Rattle.book.specs.Line.{Line, isWaiting}

@@ -10,7 +10,8 @@ use lib.ListN.{length}
 use Rattle.laws.specs.Count.{count}
 use Rattle.laws.proofs.Cases.{and-true}
 use Rattle.laws.proofs.Count.{mem-count, count-find, count-mono}
-use Rattle.flow.specs.Plan.{Plan, flowAt, PlanOk}
+use Rattle.flow.specs.Plan.{Plan, flowAt}
+use Rattle.flow.specs.Ranges.{PlanOk}
 use Rattle.window.specs.declared.Window.the-variants.{At}
 use Rattle.window.specs.Window.{interference, windowOf}
 use Rattle.window.proofs.Windows.{window-least}

@@ -12,7 +12,8 @@ use Rattle.laws.specs.Count.{keep}
 use Rattle.laws.proofs.Cases.{test}
 use Rattle.laws.proofs.Keep.{keep-same, keep-map}
 use Rattle.flow.specs.declared.Port.{Port}
-use Rattle.flow.specs.Plan.{Plan, flowAt, FlowOk}
+use Rattle.flow.specs.Plan.{Plan, flowAt}
+use Rattle.flow.specs.Ranges.{FlowOk}
 use Rattle.place.specs.Place.{columnOf, rowOf}
 use Rattle.router.specs.Links.{reach}
 use Rattle.router.specs.Rule.{Way, via, leave, sameWay, wayIn}

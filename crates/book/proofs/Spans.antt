@@ -13,7 +13,8 @@ use Rattle.laws.specs.Bounded.{tabulate}
 use Rattle.laws.specs.Count.{one, count}
 use Rattle.laws.proofs.Bounded.{getD-tabulate}
 use Rattle.laws.proofs.Count.{count-append, count-map, count-same, count-sum, count-none}
-use Rattle.flow.specs.Plan.{Plan, flowAt, PlanOk}
+use Rattle.flow.specs.Plan.{Plan, flowAt}
+use Rattle.flow.specs.Ranges.{PlanOk}
 use Rattle.bucket.specs.Regulator.{fullBucket, afterCycle}
 use Rattle.bucket.proofs.Regulator.{Regulated, reset, cycle, recount}
 use Rattle.router.proofs.Entrant.{entering-ready}

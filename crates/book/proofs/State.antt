@@ -9,7 +9,8 @@ use native.Mathlib.Omega.{arith}
 use lib.ListN.{length}
 use Rattle.torus.proofs.Axis.{lap-most}
 use Rattle.flow.specs.declared.Flow.{Flow}
-use Rattle.flow.specs.Plan.{Plan, flowAt, FlowOk}
+use Rattle.flow.specs.Plan.{Plan, flowAt}
+use Rattle.flow.specs.Ranges.{FlowOk}
 use Rattle.bucket.specs.Regulator.{bucketFits}
 use Rattle.bucket.proofs.Regulator.{fits}
 use Rattle.window.specs.Flight.{travel, mostDeflections}

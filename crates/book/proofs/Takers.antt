@@ -14,7 +14,8 @@ use Rattle.torus.proofs.Axis.{offset-same}
 use Rattle.flow.specs.declared.Flow.{Flow}
 use Rattle.flow.specs.declared.Port.the-variants.{South}
 use Rattle.flow.specs.Offsets.{ΔX, ΔY, portOf, sameClient}
-use Rattle.flow.specs.Plan.{Plan, flowAt, FlowOk}
+use Rattle.flow.specs.Plan.{Plan, flowAt}
+use Rattle.flow.specs.Ranges.{FlowOk}
 use Rattle.window.specs.Conflict.{rowsTo, columnsTo}
 use Rattle.place.specs.Place.{Place, W, N, columnOf, rowOf}
 use Rattle.place.specs.InPlace.{rowsDone}

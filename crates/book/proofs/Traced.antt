@@ -11,7 +11,8 @@ use Rattle.laws.specs.Count.{one}
 use Rattle.laws.proofs.Cases.{test}
 use Rattle.laws.proofs.Count.{mem-map, mem-snoc}
 use Rattle.flow.specs.declared.Flow.{Flow}
-use Rattle.flow.specs.Plan.{Plan, flowAt, FlowOk, PlanOk}
+use Rattle.flow.specs.Plan.{Plan, flowAt}
+use Rattle.flow.specs.Ranges.{FlowOk, PlanOk}
 use Rattle.place.specs.Place.{Place, columnOf, rowOf}
 use Rattle.router.specs.Rule.{Way, via, leave, wayIn}
 use Rattle.router.proofs.Links.{place-same}

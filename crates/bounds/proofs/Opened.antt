@@ -4,7 +4,8 @@ use mathlib.Core.Path.{_≡_, sym}
 use Prim.Native.Nat.{ℕ, _+_, _-_, _*_, _≤_}
 use native.Mathlib.Omega.{arith}
 use lib.ListN.{length}
-use Rattle.flow.specs.Plan.{PlanOk, flowAt, mostFlows}
+use Rattle.flow.specs.Plan.{flowAt, mostFlows}
+use Rattle.flow.specs.Ranges.{PlanOk}
 use Rattle.plan.specs.declared.Trailer.{Trailer}
 use Rattle.plan.specs.Layout as Layout
 use Rattle.plan.specs.Layout.{flowFrom, planOf, recordSize, trailerSize}

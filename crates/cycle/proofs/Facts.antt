@@ -6,7 +6,8 @@ use Prim.Native.Nat.{ℕ, _+_, _-_, _*_, _≤_, _<_}
 use native.Mathlib.Nat.{mul-le-mul}
 use native.Mathlib.Omega.{arith}
 use lib.ListN.{length}
-use Rattle.flow.specs.Plan.{mostSize, flowAt, FlowOk}
+use Rattle.flow.specs.Plan.{mostSize, flowAt}
+use Rattle.flow.specs.Ranges.{FlowOk}
 use Rattle.place.specs.Place.{Place, W, N}
 use Rattle.place.proofs.InPlace.{north-deflected}
 use Rattle.state.specs.declared.Register.{Register}

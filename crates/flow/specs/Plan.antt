@@ -1,9 +1,9 @@
--- A plan: the torus sizes and the flows, and the ranges in which its numbers lie (01, Torus and plan file).
+-- A plan: the torus sizes and the flows, and the limits of its numbers (01, Torus and plan file).
 use mathlib.Core.Bool.{Bool, _&&_}
 use mathlib.Core.List.{List}
-use Prim.Native.Nat.{ℕ, _≤_, _<_}
+use Prim.Native.Nat.{ℕ}
 use lib.Dec.{ltb}
-use lib.ListN.{length, getD}
+use lib.ListN.{getD}
 use Rattle.flow.specs.declared.Flow.{Flow}
 
 pub record Plan : Type 0 where
@@ -38,24 +38,3 @@ mostBurst = 255
 -- every coordinate of a flow is on the torus
 abbrev pub onTorus : ℕ → ℕ → Flow → Bool
 onTorus sx sy f = ltb (f .xs) sx && ltb (f .ys) sy && ltb (f .xd) sx && ltb (f .yd) sy
-
--- a flow's numbers lie in 01's ranges
-pub record FlowOk (sx sy : ℕ) (f : Flow) : Type 0 where
-  pub xs-on : f .xs < sx
-  pub ys-on : f .ys < sy
-  pub xd-on : f .xd < sx
-  pub yd-on : f .yd < sy
-  pub period-least : 1 ≤ f .period
-  pub period-most : f .period ≤ mostPeriod
-  pub burst-least : 1 ≤ f .burst
-  pub burst-most : f .burst ≤ mostBurst
-
--- a plan's numbers lie in 01's ranges
-pub record PlanOk (p : Plan) : Type 0 where
-  pub sx-least : 1 ≤ p .sx
-  pub sx-most : p .sx ≤ mostSize
-  pub sy-least : 1 ≤ p .sy
-  pub sy-most : p .sy ≤ mostSize
-  pub flows-least : 1 ≤ length (p .flows)
-  pub flows-most : length (p .flows) ≤ mostFlows
-  pub flow-ok : (f : ℕ) → f < length (p .flows) → FlowOk (p .sx) (p .sy) (flowAt p f)

@@ -10,7 +10,8 @@ use Rattle.laws.proofs.Cases.{and-true}
 use Rattle.torus.proofs.Axis.{offset-below}
 use Rattle.flow.specs.declared.Flow.{Flow}
 use Rattle.flow.specs.Offsets.{ΔX, ΔY}
-use Rattle.flow.specs.Plan.{FlowOk, mostSize}
+use Rattle.flow.specs.Plan.{mostSize}
+use Rattle.flow.specs.Ranges.{FlowOk}
 use Rattle.place.specs.Place.{Place, W, N}
 use Rattle.place.specs.InPlace.{inPlace, inNorth, rowsDone}
 use Rattle.place.specs.Inner.{OnColumn}

@@ -11,7 +11,8 @@ use Rattle.laws.proofs.Bounded.{length-tabulate, getD-tabulate}
 use Rattle.laws.proofs.Cases.{or-false, passed}
 use Rattle.flow.specs.declared.Flow.{Flow}
 use Rattle.flow.proofs.Plan.{FlowOn, on-torus-facts}
-use Rattle.flow.specs.Plan.{FlowOk, PlanOk, flowAt, noFlow, onTorus}
+use Rattle.flow.specs.Plan.{flowAt, noFlow, onTorus}
+use Rattle.flow.specs.Ranges.{FlowOk, PlanOk}
 use Rattle.plan.specs.declared.Answer.the-variants.{Done}
 use Rattle.plan.specs.Bytes.{littleEndian2}
 use Rattle.plan.specs.Layout.{trailerOf, flowFrom, lastAt, recordAt, planOf}

@@ -12,7 +12,8 @@ use lib.ListN.{length}
 use Rattle.laws.proofs.Cases.{and-true, eqb-both, both-eqb}
 use Rattle.laws.proofs.Bounded.{First, nowhere, first-at, finds, first-same}
 use Rattle.flow.specs.Offsets.{portOf, sameClient}
-use Rattle.flow.specs.Plan.{Plan, flowAt, PlanOk}
+use Rattle.flow.specs.Plan.{Plan, flowAt}
+use Rattle.flow.specs.Ranges.{PlanOk}
 use Rattle.router.specs.Rule.{View, isOpen, ready, isClient, entrant, isFlow, enters}
 
 module _ (p : Plan) (v : View) where

@@ -9,7 +9,8 @@ use Rattle.torus.specs.Axis.{offset, lap}
 use Rattle.torus.proofs.Axis.{offset-same}
 use Rattle.flow.specs.declared.Flow.{Flow}
 use Rattle.flow.specs.Offsets.{ΔX, ΔY}
-use Rattle.flow.specs.Plan.{Plan, FlowOk}
+use Rattle.flow.specs.Plan.{Plan}
+use Rattle.flow.specs.Ranges.{FlowOk}
 use Rattle.place.specs.Place.{Place, W, N}
 use Rattle.place.specs.InPlace.{rowsDone, inPlace}
 use Rattle.router.proofs.Path.{OnPath}

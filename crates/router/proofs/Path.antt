@@ -16,7 +16,8 @@ use Rattle.torus.proofs.Axis.{offset-below, offset-same, offset-zero, offset-on
 use Rattle.flow.specs.declared.Flow.{Flow}
 use Rattle.flow.specs.declared.Port.the-variants.{East, South}
 use Rattle.flow.specs.Offsets.{ΔX, ΔY, portOf}
-use Rattle.flow.specs.Plan.{Plan, FlowOk}
+use Rattle.flow.specs.Plan.{Plan}
+use Rattle.flow.specs.Ranges.{FlowOk}
 use Rattle.place.specs.Place.{Place, W, N, columnOf, rowOf}
 use Rattle.place.specs.InPlace.{rowsDone}
 use Rattle.router.specs.Links.{reach}

@@ -10,7 +10,8 @@ use lib.Dec.{ltb}
 use lib.ListN.{length, getD, take, drop, take-append-drop}
 use lib.Seq.{take-at}
 use Rattle.laws.proofs.Cases.{test}
-use Rattle.flow.specs.Plan.{Plan, PlanOk}
+use Rattle.flow.specs.Plan.{Plan}
+use Rattle.flow.specs.Ranges.{PlanOk}
 use Rattle.flow.specs.Limits.{exitSize}
 use Rattle.plan.specs.declared.Answer.{Answer}
 use Rattle.plan.specs.declared.Answer.the-variants.{Done, Refused}

@@ -8,7 +8,8 @@ use lib.ListN.{length}
 use Rattle.laws.proofs.Bounded.{getD-tabulate}
 use Rattle.laws.proofs.Grid.{getD-grid}
 use Rattle.laws.proofs.Keep.{any-by-count}
-use Rattle.flow.specs.Plan.{Plan, PlanOk}
+use Rattle.flow.specs.Plan.{Plan}
+use Rattle.flow.specs.Ranges.{PlanOk}
 use Rattle.place.specs.Place.{Place, W, N}
 use Rattle.router.specs.Rule.{entrant}
 use Rattle.router.proofs.Entrant.{Agree, entrant-same, enters-same}

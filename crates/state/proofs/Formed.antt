@@ -12,7 +12,8 @@ use Rattle.laws.proofs.Cases.{and-true}
 use Rattle.laws.proofs.Bounded.{all-intro}
 use Rattle.laws.proofs.Stands.{Stands}
 use Rattle.flow.specs.declared.Flow.{Flow}
-use Rattle.flow.specs.Plan.{FlowOk, PlanOk, flowAt, mostSize, mostFlows, mostPeriod, mostBurst}
+use Rattle.flow.specs.Plan.{flowAt, mostSize, mostFlows, mostPeriod, mostBurst}
+use Rattle.flow.specs.Ranges.{FlowOk, PlanOk}
 use Rattle.place.specs.Place.{Place, W, N}
 use Rattle.place.specs.InPlace.{inPlace}
 use Rattle.state.specs.declared.Register.{Register}

@@ -12,7 +12,8 @@ use Rattle.laws.proofs.Cases.{and-true, passed}
 use Rattle.laws.proofs.Bounded.{all-at}
 use Rattle.flow.specs.declared.Flow.{Flow}
 use Rattle.flow.proofs.Plan.{on-torus-facts}
-use Rattle.flow.specs.Plan.{FlowOk, onTorus, mostFlows, mostPeriod, mostBurst}
+use Rattle.flow.specs.Plan.{onTorus, mostFlows, mostPeriod, mostBurst}
+use Rattle.flow.specs.Ranges.{FlowOk}
 use Rattle.bucket.specs.Regulator.{bucketFits}
 use Rattle.bucket.proofs.Regulator.{fitting-count}
 use Rattle.plan.specs.Refusals.{sizeOk}

@@ -11,7 +11,7 @@ ghost use lib.ListN.{length, getD};
 ghost use Rattle.laws.specs.Bounded.{allBelow};
 ghost use Rattle.place.specs.Input.{placeOf};
 ghost use Rattle.state.specs.declared.Register.the-variants.{Packet};
-ghost use Rattle.flow.specs.Plan.{FlowOk};
+ghost use Rattle.flow.specs.Ranges.{FlowOk};
 ghost use Rattle.state.specs.Layout.{headerSize, flowSize, registerSize};
 ghost use Rattle.state.specs.Read.{sxIn, syIn, countIn, flowIn};
 ghost use Rattle.state.specs.Forms.{headerFits, numbersFit, tallyFits, flowFits, isPlaced, contentsFit, registerFits, cellFits, sizeIn, stateNumber};

@@ -6,7 +6,8 @@ use native.Mathlib.Omega.{arith}
 use Rattle.torus.proofs.Axis.{offset-below}
 use Rattle.flow.specs.declared.Flow.{Flow}
 use Rattle.flow.specs.Offsets.{ΔY}
-use Rattle.flow.specs.Plan.{FlowOk, mostSize}
+use Rattle.flow.specs.Plan.{mostSize}
+use Rattle.flow.specs.Ranges.{FlowOk}
 use Rattle.window.specs.Flight.{travel, flight, flightOf, mostDeflections, flightBound}
 
 -- the flight of a packet that travels with D deflections, from every entry

@@ -7,7 +7,8 @@ use borrow.Author.Tests.{eq-eqb, ne-eqb}
 use lib.ListN.{length, length-set}
 use Rattle.laws.specs.Bounded.{sumBelow}
 use Rattle.laws.proofs.Sum.{sum-none, sum-more}
-use Rattle.flow.specs.Plan.{Plan, PlanOk, flowAt}
+use Rattle.flow.specs.Plan.{Plan, flowAt}
+use Rattle.flow.specs.Ranges.{PlanOk}
 use Rattle.window.specs.declared.Conflict.{Conflict}
 use Rattle.window.specs.declared.Conflict.the-variants.{Free, Spread}
 use Rattle.window.specs.Conflict.{conflict}

@@ -5,7 +5,8 @@ use Prim.Native.Nat.{ℕ, _+_, _-_, _*_, _/_, _≤_, _<_}
 use lib.ListN.{length, getD, set}
 use Rattle.laws.specs.Bounded.{sumBelow}
 use Rattle.flow.specs.declared.Flow.{Flow}
-use Rattle.flow.specs.Plan.{Plan, FlowOk, mostSize, mostFlows, mostBurst}
+use Rattle.flow.specs.Plan.{Plan, mostSize, mostFlows, mostBurst}
+use Rattle.flow.specs.Ranges.{FlowOk}
 use Rattle.bucket.specs.Curve.{curve}
 use Rattle.window.specs.declared.Conflict.{Conflict}
 use Rattle.window.specs.declared.Conflict.the-variants.{Free, Spread}

@@ -7,7 +7,8 @@ use native.Mathlib.Omega.{arith}
 use lib.Seq.{sets}
 use Rattle.laws.proofs.Stands.{sets-append}
 use Rattle.flow.specs.declared.Flow.{Flow}
-use Rattle.flow.specs.Plan.{FlowOk, mostSize}
+use Rattle.flow.specs.Plan.{mostSize}
+use Rattle.flow.specs.Ranges.{FlowOk}
 use Rattle.plan.specs.Layout.{tag}
 use Rattle.plan.specs.Bytes.{twoBytes, fourBytes}
 use Rattle.plan.specs.Written.{recordBytes}

@@ -11,7 +11,8 @@ use Rattle.laws.specs.Bounded.{tabulate}
 use Rattle.laws.specs.Count.{joinBelow}
 use Rattle.laws.proofs.Stands.{length-join, sets-append}
 use Rattle.flow.specs.declared.Flow.{Flow}
-use Rattle.flow.specs.Plan.{FlowOk, mostSize}
+use Rattle.flow.specs.Plan.{mostSize}
+use Rattle.flow.specs.Ranges.{FlowOk}
 use Rattle.plan.specs.declared.Answer.the-variants.{Done}
 use Rattle.plan.specs.Layout.{recordSize, trailerSize, mostFile}
 use Rattle.plan.specs.Bytes.{twoBytes, fourBytes}
