@@ -28,7 +28,7 @@ use Rattle.book.proofs.Kept.{Kept}
 module _ (p : Plan) (f : Flow) (ok : FlowOk (p .sx) (p .sy) f) (c D : ℕ) where
   pub sound-flies : (s : Stage) → Sound p f c D s → Flies p f D c s
   sound-flies waiting h = tt
-  sound-flies (placed e at) h = (placed-on p f ok c D e at h, in-time at h)
+  sound-flies (placed e at) h = let on = placed-on p f ok c D e at h in (on .0, on .1, in-time at h)
     where
       in-time : (at : Place) → OnPath p f c D e at → c ≤ e + travel (p .sx) (p .sy) f D
       in-time (N x y) h = omega (arith, h .time, h .most)

@@ -24,11 +24,7 @@ bucketAt b f = getD (b .buckets) f (fullBucket 0)
 -- clock 0, no lines, each bucket with σ tokens and count 0
 abbrev pub start : Plan → Book
 start p =
-    record {
-      clock = 0;
-      buckets = tabulate (length (p .flows)) (λ f. fullBucket ((flowAt p f) .burst));
-      lines = [];
-    }
+    record { clock = 0; buckets = tabulate (length (p .flows)) (λ f. fullBucket ((flowAt p f) .burst)); lines = [] }
 
 -- a line of flow f
 abbrev pub ofFlow : ℕ → Line → Bool

@@ -38,11 +38,7 @@ seen p b x y = record { west = holds p b (W x y); north = holds p b (N x y) }
 -- what rule 3 is fed
 abbrev pub view : Plan → Book → View
 view p b =
-    record {
-      waits = λ f. any (waitsFor f) (b .lines);
-      token = λ f. ltb 0 ((bucketAt b f) .tokens);
-      seen = seen p b;
-    }
+    record { waits = λ f. any (waitsFor f) (b .lines); token = λ f. ltb 0 ((bucketAt b f) .tokens); seen = seen p b }
 
 -- rules 1 and 2 for a packet of flow f in a register
 abbrev pub output : Plan → Book → Flow → Place → Way

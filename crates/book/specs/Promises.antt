@@ -26,15 +26,11 @@ EntersBy deadline clock waiting = clock ≤ deadline
 EntersBy deadline clock (placed e at) = e ≤ deadline
 EntersBy deadline clock (left e t x y) = e ≤ deadline
 
--- the place is a register of the torus
-abbrev pub OnTorus : Plan → Place → Type 0
-OnTorus p at = (columnOf at < p .sx) × (rowOf at < p .sy)
-
--- a line with an exit left at (xd, yd) with exit = entry+ΔX+ΔY+D×Sx; an entered line without one has one place, and the
--- clock isn't past that cycle
+-- a line with an exit left at (xd, yd) with exit = entry+ΔX+ΔY+D×Sx; an entered line without one has one place, a register of
+-- the torus, and the clock isn't past that cycle
 abbrev pub Flies : Plan → Flow → (D clock : ℕ) → Stage → Type 0
 Flies p f D clock waiting = Unit {0}
-Flies p f D clock (placed e at) = OnTorus p at × (clock ≤ e + travel (p .sx) (p .sy) f D)
+Flies p f D clock (placed e at) = (columnOf at < p .sx) × (rowOf at < p .sy) × (clock ≤ e + travel (p .sx) (p .sy) f D)
 Flies p f D clock (left e t x y) = (x ≡ f .xd) × (y ≡ f .yd) × (t ≡ e + travel (p .sx) (p .sy) f D)
 
 -- two deliveries of the same five words

@@ -24,11 +24,7 @@ seen s x y =
 -- what rule 3 is fed
 abbrev pub view : State → View
 view s =
-    record {
-      waits = λ f. ltb 0 ((tallyAt s f) .waiting);
-      token = λ f. ltb 0 ((tallyAt s f) .bucket .tokens);
-      seen = seen s;
-    }
+    record { waits = λ f. ltb 0 ((tallyAt s f) .waiting); token = λ f. ltb 0 ((tallyAt s f) .bucket .tokens); seen = seen s }
 
 -- rule 3 for flow number f
 unfoldable pub enters : State → ℕ → Bool

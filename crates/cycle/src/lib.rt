@@ -8,7 +8,7 @@ ghost use Prim.Native.Nat.{_<_};
 ghost use Rattle.flow.specs.Plan.{mostSize, flowAt};
 ghost use Rattle.router.specs.Rule.{turnsSouth};
 ghost use Rattle.state.specs.State.{tallyAt, cellAt};
-ghost use Rattle.state.specs.Words.{flowOf};
+ghost use Rattle.state.specs.Inner.{flowOf};
 ghost use Rattle.state.specs.Read.{sxIn, syIn, countIn, stateOf};
 ghost use Rattle.state.proofs.Forms.{StateFacts};
 ghost use Rattle.cycle.specs.Seen.{shown};

@@ -13,7 +13,7 @@ use Rattle.router.proofs.Entrant.{Found, no-entrant, has-entrant, found}
 use Rattle.state.specs.declared.Register.{Register}
 use Rattle.state.specs.declared.Register.the-variants.{Empty, Packet}
 use Rattle.state.specs.State.{cellAt}
-use Rattle.state.specs.Words.{flowOf}
+use Rattle.state.specs.Inner.{flowOf}
 use Rattle.state.specs.Read.{countIn, stateOf}
 use Rattle.state.proofs.Forms.{StateFacts}
 use Rattle.state.proofs.View.{view-count}

@@ -16,7 +16,8 @@ use Rattle.router.specs.Links.{reach}
 use Rattle.router.specs.Rule.{via}
 use Rattle.router.specs.Delivery.{Delivery}
 use Rattle.state.specs.declared.Register.{Register}
-use Rattle.state.specs.Layout.{registerSize, routerSize, mostRouters}
+use Rattle.state.specs.Layout.{registerSize, routerSize}
+use Rattle.state.specs.Inner.{mostRouters}
 use Rattle.state.specs.Words.{registerWords}
 use Rattle.state.specs.Read.{sxIn, syIn, countIn, clockIn, stateOf}
 use Rattle.state.proofs.Forms.{StateFacts}

@@ -12,7 +12,7 @@ ghost use Rattle.flow.specs.Limits.{lastClock, exitSize};
 ghost use Rattle.router.specs.Rule.{entrant};
 ghost use Rattle.router.specs.Delivery.{wordsOf};
 ghost use Rattle.state.specs.declared.Register.the-variants.{Empty};
-ghost use Rattle.state.specs.Words.{flowOf};
+ghost use Rattle.state.specs.Inner.{flowOf};
 ghost use Rattle.state.specs.Read.{sxIn, syIn, countIn, clockIn, stateOf};
 ghost use Rattle.state.proofs.Forms.{StateFacts};
 ghost use Rattle.cycle.specs.Seen.{view};

@@ -63,7 +63,7 @@ module _ (p : Plan) (f : Flow) (D clock : ℕ) (most : D ≤ mostDeflections (p 
 
   left-by : (s : Stage) → Flies p f D clock s → isWaiting s ≡ false → entryOf s + flightBound (p .sx) (p .sy) f - 2 < clock → isLeft s ≡ true
   left-by waiting h entered past = absurd (false≢true (sym entered))
-  left-by (placed e at) h entered past = absurd (omega (arith, h .1, within))
+  left-by (placed e at) h entered past = absurd (omega (arith, h .2, within))
   left-by (left e t x y) h entered past = refl
 
 -- one call more than a list

@@ -2,7 +2,7 @@
 use Prim.Native.Nat.{ℕ, _+_, _*_}
 use lib.ListN.{length}
 use Rattle.laws.specs.Grid.{cellIndex}
-use Rattle.flow.specs.Plan.{Plan, mostSize}
+use Rattle.flow.specs.Plan.{Plan}
 
 -- Sx, Sy, F, clock, four zeros
 abbrev pub headerSize : ℕ
@@ -30,10 +30,6 @@ registerSize = 4
 -- a router has two link registers, W before N
 abbrev pub routerSize : ℕ
 routerSize = 2 * registerSize
-
--- the routers of the largest torus
-abbrev pub mostRouters : ℕ
-mostRouters = mostSize * mostSize
 
 -- where the words of flow f stand
 abbrev pub flowPlace : ℕ → ℕ

@@ -7,3 +7,4 @@ pub mod Forms
 pub mod Outcome
 pub mod Reset
 pub mod Writing
+pub mod Inner

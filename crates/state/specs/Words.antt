@@ -32,11 +32,6 @@ abbrev pub registerWords : Register → List ℕ
 registerWords Empty = 0 ∷ 0 ∷ 0 ∷ 0 ∷ []
 registerWords (Packet flow serial entry deflections) = (flow + 1) ∷ serial ∷ entry ∷ deflections ∷ []
 
--- the number of the flow whose packet it is, where it holds one
-abbrev pub flowOf : Register → ℕ
-flowOf Empty = 0
-flowOf (Packet flow serial entry deflections) = flow
-
 -- W before N
 abbrev pub cellWords : Cell → List ℕ
 cellWords c = registerWords (c .west) ++ registerWords (c .north)

@@ -4,7 +4,7 @@ use Prim.Native.Nat.{ℕ, _*_, _≤_}
 use borrow.Author.Needs.{needs}
 use native.Mathlib.Omega.{arith}
 use lib.ListN.{replicate, getD-replicate, length-replicate}
-use Rattle.state.specs.Layout.{mostRouters}
+use Rattle.state.specs.Inner.{mostRouters}
 use Rattle.state.specs.Read.{sxIn, syIn, planIn, stateOf}
 use Rattle.state.proofs.Forms.{state-facts}
 use Rattle.entry.specs.Entrants.{Entrants}

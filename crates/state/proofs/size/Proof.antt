@@ -3,7 +3,7 @@ use Prim.Native.Nat.{_*_, _≤_}
 use native.Mathlib.Nat.{mul-le-mul}
 use native.Mathlib.Omega.{arith}
 use borrow.Author.Needs.{needs}
-use Rattle.state.specs.Layout.{mostRouters}
+use Rattle.state.specs.Inner.{mostRouters}
 use Rattle.state.proofs.size.Statement.{statement}
 use Rattle.state.proofs.size.Tie as tie
 
