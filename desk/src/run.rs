@@ -7,7 +7,7 @@ use crate::offers::{Next, Offer, Offers};
 use crate::output::Output;
 use crate::plan::cant_print;
 use crate::progress::Progress;
-use crate::signals;
+use crate::signals::{self, Interruptible};
 use crate::tally::{Broken, Tally};
 use hrt::{Answer, Plan, Refusal, State};
 use std::ffi::OsString;
@@ -34,7 +34,7 @@ pub fn run(request: Request) -> Result<(), Ending> {
     if is_standard(&request.offers) && stdin().is_terminal() {
         eprintln!("offers are read from here: a line CYCLE FLOW each, and ctrl-D at the end");
     }
-    signals::note_interrupts();
+    signals::note_interrupts().map_err(|why| Ending::failed(format!("no pipe: {why}")))?;
     let state = plan.reset().map_err(refused_plan)?;
     let tallies = tallies(&plan, &state).map_err(refused_plan)?;
     let exits = !request.summary;
@@ -42,7 +42,7 @@ pub fn run(request: Request) -> Result<(), Ending> {
         cycles: request.cycles,
         output: Output::new(exits),
         progress: Progress::new(exits),
-        ..Run::new(state, tallies, Offers::of(offers.name, offers.file))
+        ..Run::new(state, tallies, Offers::of(offers.name, Interruptible(offers.file)))
     };
     let end = run.go_to_end().map_err(cant_print)?;
     run.progress.end();
