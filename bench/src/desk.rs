@@ -10,7 +10,7 @@ use std::process::{Command, Stdio};
 
 const OFFERS: usize = 1_000_000;
 /// Turns of each. Others share the machine, so the best turn by processor time is taken.
-const TURNS: usize = 3;
+const TURNS: usize = 9;
 /// Of a second, as /proc counts processor time.
 const TICKS: f64 = 100.0;
 

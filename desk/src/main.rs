@@ -1,6 +1,7 @@
 //! The planner's desk. `./hrt` builds and calls it; `./hrt --help` says what its words do.
 
 mod bytes;
+mod end;
 mod ending;
 mod input;
 mod offers;

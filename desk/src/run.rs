@@ -1,12 +1,13 @@
 //! `run`: a stream of offers through the archive, each offered before the step of its cycle.
 
-use crate::ending::{Ending, Stop};
+use crate::end::End;
+use crate::ending::Ending;
 use crate::input::{self, is_standard, read_plan};
 use crate::offers::{Next, Offer, Offers};
 use crate::output::Output;
 use crate::plan::cant_print;
 use crate::progress::Progress;
-use crate::signals;
+use crate::signals::{self, Interruptible};
 use crate::tally::{Broken, Tally};
 use hrt::{Answer, Plan, Refusal, State};
 use std::ffi::OsString;
@@ -22,24 +23,6 @@ pub struct Request {
     pub summary: bool,
 }
 
-/// Why a run ends.
-#[derive(Debug, PartialEq, Eq)]
-enum End {
-    /// The stream has ended and everything has left.
-    Left,
-    /// The cycle that was asked for.
-    Cycles,
-    /// The step was refused: the clock's last cycle.
-    Refused(Refusal),
-    /// A fault in the stream.
-    Fault(String),
-    /// The stream can't be read any further.
-    Unreadable(String),
-    Signal(u8),
-    /// What can't happen.
-    Broken(Broken),
-}
-
 pub fn run(request: Request) -> Result<(), Ending> {
     if is_standard(&request.plan) && is_standard(&request.offers) {
         let text =
@@ -51,7 +34,7 @@ pub fn run(request: Request) -> Result<(), Ending> {
     if is_standard(&request.offers) && stdin().is_terminal() {
         eprintln!("offers are read from here: a line CYCLE FLOW each, and ctrl-D at the end");
     }
-    signals::note_interrupts();
+    signals::note_interrupts().map_err(|why| Ending::failed(format!("no pipe: {why}")))?;
     let state = plan.reset().map_err(refused_plan)?;
     let tallies = tallies(&plan, &state).map_err(refused_plan)?;
     let exits = !request.summary;
@@ -59,50 +42,17 @@ pub fn run(request: Request) -> Result<(), Ending> {
         cycles: request.cycles,
         output: Output::new(exits),
         progress: Progress::new(exits),
-        ..Run::new(state, tallies, Offers::of(offers.name, offers.file))
+        ..Run::new(state, tallies, Offers::of(offers.name, Interruptible(offers.file)))
     };
     let end = run.go_to_end().map_err(cant_print)?;
     run.progress.end();
     let end = run.last_checks(end);
-    run.output
-        .table(&run.tallies, &run.state, &said(&end, run.state.clock()))
-        .map_err(cant_print)?;
-    ending(end)
+    run.output.table(&run.tallies, &run.state, &end.said(run.state.clock())).map_err(cant_print)?;
+    end.ending()
 }
 
 fn refused_plan(refusal: Refusal) -> Ending {
     Ending::broken(format!("an accepted plan is {refusal}"))
-}
-
-/// How the run ended, below the table.
-fn said(end: &End, clock: u32) -> String {
-    let how = match end {
-        End::Left => "everything has left",
-        End::Cycles => "as asked",
-        End::Refused(_) => "the clock goes no further",
-        End::Fault(_) => "at a faulty line",
-        End::Unreadable(_) => "the offers can't be read any further",
-        End::Signal(_) => "interrupted",
-        End::Broken(_) => "A BOUND IS BROKEN",
-    };
-    format!("ended at cycle {clock}: {how}")
-}
-
-fn ending(end: End) -> Result<(), Ending> {
-    match end {
-        End::Left | End::Cycles => Ok(()),
-        End::Refused(refusal) => {
-            let number = refusal.number;
-            Err(Ending::failed(format!("step: {refusal}; ./hrt explain {number} says why")))
-        }
-        End::Fault(text) => Err(Ending::at(Stop::Wrong, text)),
-        End::Unreadable(text) => Err(Ending::wrong(text)),
-        End::Signal(number) => Err(Ending { stop: Stop::Signal(number), messages: Vec::new() }),
-        End::Broken(text) => Err(Ending::broken(format!(
-            "A BOUND IS BROKEN: {text}. This is proved not to happen, so the program or this machine is at \
-             fault: don't rely on any output, and report it with the plan and the offers"
-        ))),
-    }
 }
 
 /// A run under way.
@@ -223,13 +173,14 @@ impl<R: Read> Run<R> {
                 self.offered += 1;
                 None
             }
-            Answer::Refused(refusal) => {
+            Answer::Refused(refusal @ Refusal { number: 12, .. }) => {
                 let last = self.tallies.len() - 1;
                 let text = format!(
                     "flow {flow} is not in the plan; its flows are 0 to {last} ({refusal})"
                 );
                 Some(End::Fault(self.offers.at_line(&text)))
             }
+            Answer::Refused(refusal) => Some(End::Broken(format!("an offer is {refusal}"))),
         }
     }
 
@@ -238,7 +189,8 @@ impl<R: Read> Run<R> {
         let Run { state, tallies, output, .. } = self;
         let exits = match state.step() {
             Ok(exits) => exits,
-            Err(refusal) => return Ok(Some(End::Refused(refusal))),
+            Err(refusal @ Refusal { number: 11, .. }) => return Ok(Some(End::Refused(refusal))),
+            Err(refusal) => return Ok(Some(End::Broken(format!("a step is {refusal}")))),
         };
         for exit in exits {
             match tallies[exit.flow as usize].leave(&exit) {
@@ -310,6 +262,7 @@ fn tallies(plan: &Plan, state: &State) -> Result<Vec<Tally>, Refusal> {
 #[cfg(test)]
 mod tests {
     use super::*;
+    use crate::ending::Stop;
     use hrt::limits::LAST_CLOCK;
     use hrt::Flow;
 
@@ -331,7 +284,7 @@ mod tests {
         let end = run.go_to_end().unwrap();
         assert_eq!(end, End::Refused(Refusal { number: 11, place: 0 }));
         assert_eq!((run.state.clock(), run.offered, run.left, run.here), (LAST_CLOCK, 2, 0, 2));
-        let ending = ending(run.last_checks(end)).unwrap_err();
+        let ending = run.last_checks(end).ending().unwrap_err();
         assert_eq!(ending.stop, Stop::Failed);
         assert_eq!(ending.messages, ["hrt: step: refused 11 0; ./hrt explain 11 says why"]);
     }
@@ -349,7 +302,7 @@ mod tests {
         run.tallies[0] = Tally::new(0, 10, Some(1), 7);
         let end = run.go_to_end().unwrap();
         assert_eq!(end, End::Broken("packet 1 of flow 0: flight 8, bound 7".to_string()));
-        let ending = ending(end).unwrap_err();
+        let ending = end.ending().unwrap_err();
         assert_eq!(ending.stop, Stop::Broken);
         assert!(ending.messages[0].starts_with("hrt: A BOUND IS BROKEN: packet 1 of flow 0"));
     }
