@@ -1,16 +1,18 @@
--- The starred cases of 01, as rows of one table (01, Cases on both sides). All are 4 by 4.
+-- The starred cases of 01 and a case of its slip 'Expecting a flow's packets in order', as rows of one table (01, Cases on both
+-- sides; Slips). All are 4 by 4.
 use mathlib.Core.List.{List, [], _∷_, map}
 use mathlib.Core.Path.{_≡_}
 use Prim.Native.Nat.{ℕ, zero, suc}
 use Rattle.flow.specs.declared.Flow.{Flow}
 use Rattle.flow.specs.Offsets.{ΔX, ΔY}
 use Rattle.flow.specs.Plan.{Plan, flowAt}
+use Rattle.plan.specs.declared.Answer.{Answer}
+use Rattle.plan.specs.declared.Answer.the-variants.{Done, Refused}
+use Rattle.plan.specs.Written.{planBytes}
 use Rattle.window.specs.declared.Conflict.the-variants.{Spread}
-use Rattle.window.specs.declared.Window.{Window}
-use Rattle.window.specs.declared.Window.the-variants.{At, Nothing}
 use Rattle.window.specs.Conflict.{conflict}
-use Rattle.window.specs.Window.{windowOf}
-use Rattle.window.specs.Flight.{flight, flightOf, flightBound}
+use Rattle.window.specs.Flight.{flight, flightBound}
+use Rattle.bounds.specs.Bounds.{windowAnswer}
 use Rattle.book.specs.Book.{bucketAt}
 use Rattle.router.specs.Delivery.{Delivery}
 use Rattle.book.specs.Feed.{Call, offer, step, run}
@@ -35,14 +37,12 @@ exit f s e t D = record { flow = f; serial = s; entry = e; exit = t; D = D }
 pub data Case : Type 0 where
   -- ΔX and ΔY of a flow
   offsets : Flow → ℕ → ℕ → Case
-  -- a flow's flight unhindered
-  unhindered : Flow → ℕ → Case
   -- a flow's flight bound
   bound : Flow → ℕ → Case
   -- the spread of flow 1 at the source of flow 0
   spread : Plan → ℕ → Case
-  -- the window of flow 0
-  window : Plan → Window → Case
+  -- what the window call on the plan's file answers for flow 0
+  window : Plan → Answer → Case
   -- what a list of calls delivers, and its flights
   delivers : Plan → List Call → List Delivery → List ℕ → Case
   -- the tokens of flow 0 after a list of calls
@@ -50,10 +50,9 @@ pub data Case : Type 0 where
 
 abbrev pub Holds : Case → Type 0
 Holds (offsets f dx dy) = (ΔX 4 f ≡ dx) × (ΔY 4 f ≡ dy)
-Holds (unhindered f n) = flightOf 4 4 f 0 ≡ n
 Holds (bound f n) = flightBound 4 4 f ≡ n
 Holds (spread p j) = conflict 4 4 (flowAt p 0) (flowAt p 1) ≡ Spread j
-Holds (window p found) = windowOf p 0 ≡ found
+Holds (window p answer) = windowAnswer (planBytes [] p) 0 ≡ answer
 Holds (delivers p cs ds ts) = (run p cs .delivered ≡ ds) × (map (λ (d : Delivery). flight (d .entry) (d .exit)) ds ≡ ts)
 Holds (tokens p cs n) = (bucketAt (run p cs .book) 0) .tokens ≡ n
 
@@ -68,41 +67,42 @@ far = flow 0 0 3 3 9 1
 abbrev south : Flow
 south = flow 3 3 3 1 9 1
 
-abbrev home : Flow
-home = flow 2 2 2 2 9 1
-
 -- f and g in one row, and in one column
 abbrev pub across : ℕ → ℕ → Plan
 across P σ = torus (flow 1 0 2 0 9 1 ∷ flow 0 0 3 0 P σ ∷ [])
 
-abbrev along : Plan
+abbrev pub along : Plan
 along = torus (flow 0 2 0 3 9 1 ∷ flow 0 0 0 3 8 1 ∷ [])
 
--- the two that meet at (0,1), and the one of period 10
+-- the two that meet at (0,1)
 abbrev meeting : Plan
 meeting = torus (flow 0 0 0 1 9 1 ∷ flow 3 1 0 1 9 1 ∷ [])
 
+-- the same ends, with a second packet of flow 0: it passes the first, which is deflected at (0,1)
+abbrev overtaking : Plan
+overtaking = torus (flow 0 0 0 1 1 2 ∷ flow 3 1 0 1 9 1 ∷ [])
+
+-- the one of period 10
 abbrev slow : Plan
 slow = torus (flow 0 0 3 3 10 1 ∷ [])
 
 abbrev pub starred : List Case
 starred =
-    unhindered far 8
-    ∷ bound far 20
+    bound far 20
     ∷ delivers (torus (far ∷ [])) (offer 0 ∷ steps 7) (exit 0 1 0 6 0 ∷ []) (8 ∷ [])
     ∷ offsets south 0 2
-    ∷ unhindered south 4
     ∷ bound south 12
     ∷ delivers (torus (south ∷ [])) (offer 0 ∷ steps 3) (exit 0 1 0 2 0 ∷ []) (4 ∷ [])
-    ∷ unhindered home 2
-    ∷ delivers (torus (home ∷ [])) (offer 0 ∷ steps 1) (exit 0 1 0 0 0 ∷ []) (2 ∷ [])
+    ∷ delivers (torus (flow 2 2 2 2 9 1 ∷ [])) (offer 0 ∷ steps 1) (exit 0 1 0 0 0 ∷ []) (2 ∷ [])
     ∷ delivers meeting (offer 0 ∷ offer 1 ∷ steps 6) (exit 1 1 0 1 0 ∷ exit 0 1 0 5 1 ∷ []) (3 ∷ 7 ∷ [])
-    ∷ window (across 10 1) (At 2)
-    ∷ window (across 2 3) (At 6)
-    ∷ window (across 1 1) Nothing
+    ∷ window (across 10 1) (Done 2)
+    ∷ window (across 2 3) (Done 6)
+    ∷ window (across 1 1) (Refused 14 0)
     ∷ spread along 8
-    ∷ window along (At 3)
+    ∷ window along (Done 3)
     ∷ tokens slow (offer 0 ∷ steps 1) 0
     ∷ tokens slow (offer 0 ∷ steps 9) 0
     ∷ tokens slow (offer 0 ∷ steps 10) 1
+    -- not starred: serial 2 of flow 0 leaves in cycle 2, serial 1 in cycle 5
+    ∷ delivers overtaking (offer 0 ∷ offer 0 ∷ offer 1 ∷ steps 6) (exit 1 1 0 1 0 ∷ exit 0 2 1 2 0 ∷ exit 0 1 0 5 1 ∷ []) (3 ∷ 3 ∷ 7 ∷ [])
     ∷ []

@@ -85,3 +85,37 @@ pub fn pair_of(last: u8, xd: u8, period: u8, burst: u8) -> [u8; 28] {
         80,
     ]
 }
+
+// Two flows on 4 by 4 that meet at (0,1): (0,0) to (0,1) with period 1 and burst 2, and (3,1) to (0,1) with period 9 and burst 1.
+pub fn overtaking() -> [u8; 28] {
+    [
+        0,
+        0,
+        0,
+        1,
+        1,
+        0,
+        2,
+        0,
+        3,
+        1,
+        0,
+        1,
+        9,
+        0,
+        1,
+        0,
+        0,
+        0,
+        0,
+        0,
+        2,
+        0,
+        4,
+        4,
+        72,
+        82,
+        84,
+        80,
+    ]
+}

@@ -232,12 +232,23 @@ fn last_cycles(words: &mut [u32], delivery: &mut [u32]) {
     step(b"step at clock 4,294,967,295", words, delivery, 80);
 }
 
-// An offer and a step of a flow to its own client: it exits in its entry cycle.
-fn alone(asked: &[u8], sx: u8, sy: u8, x: u8, y: u8, words: &mut [u32], delivery: &mut [u32]) {
-    reset_first(asked, &files::plan_of(sx, sy, x, y, x, y), 20, words, 146);
+// A plan of one flow from its reset on, with one packet offered.
+fn one_packet(asked: &[u8], file: &[u8], words: &mut [u32]) {
+    reset_first(asked, file, 20, words, 146);
     offer(b"  offer", words, 146, 0);
-    step(b"  step", words, delivery, 80);
-    delivered(b"  delivered", delivery);
+}
+
+// A step, and the first five words of its delivery memory: an exit's, or the nines that stood there.
+fn cycle(words: &mut [u32]) {
+    let mut delivery = [9u32; 80];
+    step(b"  step", words, &mut delivery, 80);
+    delivered(b"  delivery memory", &delivery);
+}
+
+fn three_cycles(words: &mut [u32]) {
+    cycle(words);
+    cycle(words);
+    cycle(words);
 }
 
 fn into_little(words: &[u32], notes: &[u8], target: &mut [u8]) {
@@ -296,22 +307,49 @@ fn limits(words: &mut [u32], delivery: &mut [u32]) {
     last_cycles(words, delivery);
 }
 
-fn squares(words: &mut [u32], delivery: &mut [u32]) {
-    alone(
+// A flow to its own client exits in its entry cycle.
+fn squares(words: &mut [u32]) {
+    one_packet(
         b"a flow to its own client on 4 by 4",
-        4,
-        4,
-        2,
-        2,
+        &files::plan_of(4, 4, 2, 2, 2, 2),
         words,
-        delivery,
     );
-    alone(b"1 by 1", 1, 1, 0, 0, words, delivery);
+    cycle(words);
+    one_packet(b"1 by 1", &files::plan_of(1, 1, 0, 0, 0, 0), words);
+    cycle(words);
 }
 
-fn rows_and_columns(words: &mut [u32], delivery: &mut [u32]) {
-    alone(b"Sx 1", 1, 4, 0, 3, words, delivery);
-    alone(b"Sy 1", 4, 1, 3, 0, words, delivery);
+// Over two links: it exits in cycle 2.
+fn rows_and_columns(words: &mut [u32]) {
+    one_packet(
+        b"Sx 1, two links south",
+        &files::plan_of(1, 4, 0, 0, 0, 2),
+        words,
+    );
+    three_cycles(words);
+    one_packet(
+        b"Sy 1, two links east",
+        &files::plan_of(4, 1, 0, 0, 2, 0),
+        words,
+    );
+    three_cycles(words);
+}
+
+// A state of two flows has 156 words. Serial 1 of flow 0 is deflected at its destination by flow 1's packet: serial 2 leaves in
+// cycle 2, serial 1 in cycle 5.
+fn out_of_order(words: &mut [u32]) {
+    reset_first(
+        b"a flow's packets out of order",
+        &files::overtaking(),
+        28,
+        words,
+        156,
+    );
+    offer(b"  offer to flow 0", words, 156, 0);
+    offer(b"  offer to flow 0", words, 156, 0);
+    offer(b"  offer to flow 1", words, 156, 1);
+    three_cycles(words);
+    three_cycles(words);
 }
 
 fn writing_back(words: &mut [u32], notes: &[u8], target: &mut [u8]) {
@@ -331,19 +369,20 @@ fn engine_runs(words: &mut [u32], delivery: &mut [u32]) {
     limits(words, delivery);
 }
 
-fn sizes_of_one(words: &mut [u32], delivery: &mut [u32]) {
-    squares(words, delivery);
-    rows_and_columns(words, delivery);
+fn packets(words: &mut [u32]) {
+    squares(words);
+    rows_and_columns(words);
+    out_of_order(words);
 }
 
 fn run(words: &mut [u32], delivery: &mut [u32], notes: &[u8], target: &mut [u8]) {
     engine_runs(words, delivery);
-    sizes_of_one(words, delivery);
+    packets(words);
     writing_back(words, notes, target);
 }
 
 fn main() {
-    let mut words = [7u32; 146];
+    let mut words = [7u32; 156];
     let mut delivery = [9u32; 80];
     let notes = [33u8; 65517];
     let mut target = [0u8; 24];

@@ -62,12 +62,8 @@ lines p (suc n) = lines p n ++ line p n
 -- "flow port window flight wait"
 abbrev pub header : List ℕ
 header =
-    102 ∷ 108 ∷ 111 ∷ 119 ∷ 32
-    ∷ 112 ∷ 111 ∷ 114 ∷ 116 ∷ 32
-    ∷ 119 ∷ 105 ∷ 110 ∷ 100 ∷ 111 ∷ 119 ∷ 32
-    ∷ 102 ∷ 108 ∷ 105 ∷ 103 ∷ 104 ∷ 116 ∷ 32
-    ∷ 119 ∷ 97 ∷ 105 ∷ 116
-    ∷ newline
+    102 ∷ 108 ∷ 111 ∷ 119 ∷ 32 ∷ 112 ∷ 111 ∷ 114 ∷ 116 ∷ 32 ∷ 119 ∷ 105 ∷ 110 ∷ 100 ∷ 111 ∷ 119 ∷ 32
+    ∷ 102 ∷ 108 ∷ 105 ∷ 103 ∷ 104 ∷ 116 ∷ 32 ∷ 119 ∷ 97 ∷ 105 ∷ 116 ∷ newline
 
 -- "refused", number, place
 abbrev pub refusedLine : ℕ → ℕ → List ℕ
