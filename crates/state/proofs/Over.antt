@@ -4,14 +4,11 @@ use mathlib.Core.Path.{_≡_, refl, _∙_}
 use Prim.Native.Nat.{ℕ, zero, suc, _≤_}
 use native.Mathlib.Nat.{zero-add}
 use native.Mathlib.Omega.{arith}
-use lib.ListN.{length, drop, length-append, length-drop}
+use lib.ListN.{length, drop}
 use lib.Seq.{sets, sets-eq}
 use Rattle.laws.proofs.Stands.{Stands, stands-start}
 use Rattle.plan.specs.declared.Answer.{Answer}
 use Rattle.state.specs.Outcome.{Outcome, refused, unless, over}
-
-pub over-length : (part memory : List ℕ) → length part ≤ length memory → length (over part memory) ≡ length memory
-over-length part memory h = omega (arith, length-append part (drop (length part) memory), length-drop (length part) memory)
 
 -- a run of stores from the start
 pub over-sets : (part memory : List ℕ) → length part ≤ length memory → sets memory 0 part ≡ over part memory

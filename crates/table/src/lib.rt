@@ -4,7 +4,6 @@ use flow::Port;
 use plan::Answer;
 use plan::Trailer;
 use window::Window;
-ghost use mathlib.Core.Path.{_≡_};
 ghost use mathlib.Core.List.{_∷_, []};
 ghost use Prim.Native.Nat.{_+_, _*_, _<_, _≤_};
 ghost use lib.ListN.{length};
