@@ -129,16 +129,10 @@ fn reading() {
     read(b"Sx 16", &files::plan_of(16, 4, 1, 0, 2, 0), 20);
     read(b"Sx 17", &files::plan_of(17, 4, 1, 0, 2, 0), 20);
     read(b"Sy 0", &files::plan_of(4, 0, 1, 0, 2, 0), 20);
-}
-
-// The count's two bytes stand at 12 and 13.
-fn counts() {
+    // the count's two bytes stand at 12 and 13
     read(b"count 0", &files::with_trailer(0, 0, 0), 20);
     read(b"count 256 in 20 bytes", &files::with_trailer(0, 0, 1), 20);
     read(b"count 257", &files::with_trailer(0, 1, 1), 20);
-}
-
-fn starts() {
     read(b"start 1 without notes", &files::with_trailer(1, 1, 0), 20);
 }
 
@@ -185,14 +179,11 @@ fn flights() {
 }
 
 // A state of one flow on 4 by 4 has 8 + 10 + 8×4×4 = 146 words, and a step asks for 5×4×4 = 80.
-fn resets(words: &mut [u32]) {
+fn resets_and_offers(words: &mut [u32]) {
     let file = files::plan_of(4, 4, 1, 0, 2, 0);
     reset_first(b"reset of 145 words", &file, 20, words, 145);
     offer(b"offer to words that are no state", words, 146, 0);
     reset_first(b"reset of 146 words", &file, 20, words, 146);
-}
-
-fn refused_offers(words: &mut [u32]) {
     offer(b"offer lent 7 words", words, 7, 0);
     offer(b"offer lent 145 words", words, 145, 0);
     offer(b"offer to flow 1 of one", words, 146, 1);
@@ -211,25 +202,6 @@ fn steps(words: &mut [u32], delivery: &mut [u32]) {
         delivery,
         80,
     );
-}
-
-// The same state with some of its words changed: 3 is the clock, 4 a zero, 17 the flow's waiting.
-fn zero_word(words: &mut [u32], delivery: &mut [u32]) {
-    put(words, 4, 1);
-    step(b"step with a zero word that is 1", words, delivery, 80);
-    put(words, 4, 0);
-}
-
-fn last_offers(words: &mut [u32]) {
-    put(words, 17, 65534);
-    offer(b"offer at 65,534 waiting", words, 146, 0);
-    offer(b"offer at 65,535 waiting", words, 146, 0);
-}
-
-fn last_cycles(words: &mut [u32], delivery: &mut [u32]) {
-    put(words, 3, 4294967294);
-    step(b"step at clock 4,294,967,294", words, delivery, 80);
-    step(b"step at clock 4,294,967,295", words, delivery, 80);
 }
 
 // A plan of one flow from its reset on, with one packet offered.
@@ -295,16 +267,20 @@ fn from_much(words: &[u32], notes: &[u8], target: &mut [u8]) {
     write(b"write from 145 words", words, 145, notes, 4, target, 24);
 }
 
-fn states(words: &mut [u32], delivery: &mut [u32]) {
-    resets(words);
-    refused_offers(words);
-    steps(words, delivery);
+// The same state with some of its words changed: 3 is the clock, 4 a zero, 17 the flow's waiting.
+fn limits(words: &mut [u32], delivery: &mut [u32]) {
+    put(words, 4, 1);
+    step(b"step with a zero word that is 1", words, delivery, 80);
+    put(words, 4, 0);
+    put(words, 17, 65534);
+    offer(b"offer at 65,534 waiting", words, 146, 0);
+    offer(b"offer at 65,535 waiting", words, 146, 0);
 }
 
-fn limits(words: &mut [u32], delivery: &mut [u32]) {
-    zero_word(words, delivery);
-    last_offers(words);
-    last_cycles(words, delivery);
+fn last_cycles(words: &mut [u32], delivery: &mut [u32]) {
+    put(words, 3, 4294967294);
+    step(b"step at clock 4,294,967,294", words, delivery, 80);
+    step(b"step at clock 4,294,967,295", words, delivery, 80);
 }
 
 // A flow to its own client exits in its entry cycle.
@@ -365,8 +341,10 @@ fn writing_back(words: &mut [u32], notes: &[u8], target: &mut [u8]) {
 }
 
 fn engine_runs(words: &mut [u32], delivery: &mut [u32]) {
-    states(words, delivery);
+    resets_and_offers(words);
+    steps(words, delivery);
     limits(words, delivery);
+    last_cycles(words, delivery);
 }
 
 fn packets(words: &mut [u32]) {
@@ -387,8 +365,6 @@ fn main() {
     let notes = [33u8; 65517];
     let mut target = [0u8; 24];
     reading();
-    counts();
-    starts();
     flows();
     windows();
     flights();
