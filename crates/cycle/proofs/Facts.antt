@@ -13,9 +13,8 @@ use Rattle.place.proofs.InPlace.{north-deflected}
 use Rattle.state.specs.declared.Register.{Register}
 use Rattle.state.specs.declared.Register.the-variants.{Empty, Packet}
 use Rattle.state.specs.Layout.{registerSize, routerSize, flowPlace}
-use Rattle.state.specs.Inner.{mostRouters}
+use Rattle.state.specs.Inner.{mostRouters, flowOf}
 use Rattle.state.specs.State.{tallyAt, cellAt}
-use Rattle.state.specs.Inner.{flowOf}
 use Rattle.state.specs.Read.{sxIn, syIn, countIn, clockIn, flowIn, registerIn, routerIn, stateOf}
 use Rattle.state.specs.Forms.{registerFits}
 use Rattle.state.proofs.Forms.{TallyFacts, StateFacts, packet-facts}

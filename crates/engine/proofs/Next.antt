@@ -13,12 +13,11 @@ use Rattle.laws.proofs.Bounded.{getD-tabulate}
 use Rattle.laws.proofs.Grid.{getD-grid, cell-below}
 use Rattle.laws.proofs.Stands.{Stands, stands-take}
 use Rattle.state.specs.declared.Tally.{Tally}
-use Rattle.state.specs.Layout.{clockPlace, numberSize, routerSize, flowPlace}
+use Rattle.state.specs.Layout.{clockPlace, numberSize, routerSize, flowPlace, planSize}
 use Rattle.state.specs.State.{State, tallyAt, cellAt, freshTally, emptyCell}
 use Rattle.state.specs.Words.{tallyWords, cellWords, stateWords}
 use Rattle.state.specs.Read.{sxIn, syIn, countIn, clockIn, planIn, stateOf}
 use Rattle.state.specs.Outcome.{over}
-use Rattle.state.specs.Layout.{planSize}
 use Rattle.state.proofs.Words.{length-cell}
 use Rattle.state.proofs.Forms.{StateFacts}
 use Rattle.state.proofs.View.{view-sized}

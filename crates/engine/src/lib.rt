@@ -16,10 +16,8 @@ ghost use Rattle.state.proofs.Forms.{StateFacts};
 ghost use Rattle.entry.specs.Entrants.{Entrants};
 ghost use Rattle.routing.specs.Walk.{registersIn, pushedAll};
 ghost use Rattle.engine.specs.Next.{Room, nextWords};
-ghost use Rattle.cycle.specs.Step.{stepState, deliveries};
-ghost use Rattle.cycle.specs.Offer.{offerOn};
-ghost use Rattle.cycle.specs.Step.{stepOn};
-ghost use Rattle.cycle.specs.Offer.{offerState};
+ghost use Rattle.cycle.specs.Step.{stepState, deliveries, stepOn};
+ghost use Rattle.cycle.specs.Offer.{offerOn, offerState};
 
 // Copies n words to a place.
 fn copy(from: &[u32], to: &mut [u32], at: usize, n: usize)

@@ -15,11 +15,10 @@ use Rattle.laws.specs.Turns.{turns}
 use Rattle.laws.proofs.Turns.{turns-more}
 use Rattle.flow.specs.Plan.{flowAt}
 use Rattle.state.specs.declared.Tally.{Tally}
-use Rattle.state.specs.Layout.{flowPlace, numberSize}
+use Rattle.state.specs.Layout.{flowPlace, numberSize, planSize}
 use Rattle.state.specs.State.{tallyAt, cellAt}
 use Rattle.state.specs.Words.{tallyWords}
 use Rattle.state.specs.Read.{countIn, flowIn, tallyIn, stateOf}
-use Rattle.state.specs.Layout.{planSize}
 use Rattle.state.proofs.Forms.{StateFacts}
 use Rattle.state.proofs.View.{view-count}
 use Rattle.state.proofs.Read.{flow-read, tally-read}

@@ -16,11 +16,10 @@ use Rattle.plan.specs.declared.Answer.the-variants.{Done}
 use Rattle.plan.specs.Refusals.{trailerNumber, answerBy, recordsAnswer, planAnswer}
 use Rattle.plan.proofs.Refusals.{or-else-done, answer-done}
 use Rattle.plan.specs.Layout.{trailerOf, flowFrom, recordAt, planOf}
-use Rattle.state.specs.Layout.{headerSize, flowSize, routerSize, flowPlace, stateSize}
+use Rattle.state.specs.Layout.{headerSize, flowSize, routerSize, flowPlace, stateSize, planSize}
 use Rattle.state.specs.State.{tallyAt, cellAt, freshTally, emptyCell, resetState}
 use Rattle.state.specs.Words.{headerWords, cellWords, stateWords}
 use Rattle.state.specs.Outcome.{over}
-use Rattle.state.specs.Layout.{planSize}
 use Rattle.state.proofs.Holds.{Front, registers-written, hold-same, hold-over}
 use Rattle.reset.specs.Fresh.{freshWords}
 

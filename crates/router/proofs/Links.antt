@@ -1,6 +1,5 @@
 -- Links are one to one: each register of the torus is reached by the output that feeds it and by no other. Rests on specs/Links.
-use mathlib.Core.Bool.{true, _&&_, and-false, false≢true}
-use mathlib.Core.Bool.{and-true as and-so}
+use mathlib.Core.Bool.{true, _&&_, and-false, false≢true, and-true as and-so}
 use mathlib.Core.Path.{_≡_, ap}
 use Prim.Native.Nat.{ℕ, _<_}
 use native.Mathlib.Decide.{ℕ-discrete}

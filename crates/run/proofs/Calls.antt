@@ -23,10 +23,8 @@ use Rattle.state.specs.State.{tallyAt}
 use Rattle.state.specs.Words.{stateWords}
 use Rattle.state.specs.Outcome.{Outcome, outcome, lent, unless, over}
 use Rattle.state.specs.Writing.{bytesOn, writeOn}
-use Rattle.cycle.specs.Offer.{offerState}
-use Rattle.cycle.specs.Step.{stepState, deliveries}
-use Rattle.cycle.specs.Offer.{offerOn}
-use Rattle.cycle.specs.Step.{stepOn}
+use Rattle.cycle.specs.Offer.{offerState, offerOn}
+use Rattle.cycle.specs.Step.{stepState, deliveries, stepOn}
 use Rattle.run.specs.View.{bookState}
 use Rattle.run.specs.List.{offer, step, write, onWords}
 use Rattle.run.proofs.View.{tally-at}

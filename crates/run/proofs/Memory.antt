@@ -17,12 +17,11 @@ use Rattle.laws.proofs.Stands.{Stands, stands-first}
 use Rattle.flow.specs.Plan.{Plan}
 use Rattle.book.specs.Book.{Book}
 use Rattle.book.proofs.Kept.{Kept}
-use Rattle.state.specs.Layout.{headerSize}
+use Rattle.state.specs.Layout.{headerSize, planSize}
 use Rattle.state.specs.Words.{stateWords}
 use Rattle.state.specs.Read.{planIn, stateOf}
 use Rattle.state.specs.Forms.{headerFits, sizeIn, stateNumber}
 use Rattle.state.specs.Outcome.{over}
-use Rattle.state.specs.Layout.{planSize}
 use Rattle.state.proofs.Words.{length-words}
 use Rattle.state.proofs.Read.{Sized, sx-read, sy-read, count-read, plan-read, read-back}
 use Rattle.state.proofs.Formed.{words-form}

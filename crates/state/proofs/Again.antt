@@ -11,11 +11,10 @@ use Rattle.laws.specs.Bounded.{tabulate}
 use Rattle.laws.proofs.Stands.{Stands, stands-entries, stands-append}
 use Rattle.place.specs.Place.{W, N}
 use Rattle.state.specs.declared.Register.the-variants.{Empty}
-use Rattle.state.specs.Layout.{headerSize, flowSize, registerSize, flowPlace, routerPlace}
+use Rattle.state.specs.Layout.{headerSize, flowSize, registerSize, flowPlace, routerPlace, planSize}
 use Rattle.state.specs.State.{cellAt}
 use Rattle.state.specs.Words.{headerWords, flowWords, registerWords, cellWords}
 use Rattle.state.specs.Read.{sxIn, syIn, countIn, clockIn, flowIn, tallyIn, registerIn, cellIn, routerIn, planIn, stateOf}
-use Rattle.state.specs.Layout.{planSize}
 use Rattle.state.proofs.Words.{length-register, router-below}
 use Rattle.state.proofs.Holds.{HoldsState}
 use Rattle.state.proofs.View.{view-count, view-size, view-flow, view-tally, view-cell}

@@ -17,11 +17,10 @@ use Rattle.flow.specs.declared.Flow.{Flow}
 use Rattle.flow.specs.Plan.{Plan, flowAt}
 use Rattle.state.specs.declared.Tally.{Tally}
 use Rattle.state.specs.declared.Cell.{Cell}
-use Rattle.state.specs.Layout.{headerSize, clockPlace, zerosPlace, flowSize, numberSize, routerSize, flowPlace, routerPlace}
+use Rattle.state.specs.Layout.{headerSize, clockPlace, zerosPlace, flowSize, numberSize, routerSize, flowPlace, routerPlace, planSize}
 use Rattle.state.specs.State.{State, tallyAt, cellAt}
 use Rattle.state.specs.Words.{headerWords, numberWords, tallyWords, flowWords, cellWords, stateWords}
 use Rattle.state.specs.Outcome.{over}
-use Rattle.state.specs.Layout.{planSize}
 use Rattle.state.proofs.Words.{header, flows, cells, length-cell, length-words, front-length}
 use Rattle.state.proofs.Over.{over-is}
 

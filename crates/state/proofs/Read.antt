@@ -17,11 +17,10 @@ use Rattle.state.specs.declared.Register.{Register}
 use Rattle.state.specs.declared.Register.the-variants.{Empty, Packet}
 use Rattle.state.specs.declared.Tally.{Tally}
 use Rattle.state.specs.declared.Cell.{Cell}
-use Rattle.state.specs.Layout.{registerSize, flowPlace}
+use Rattle.state.specs.Layout.{registerSize, flowPlace, planSize}
 use Rattle.state.specs.State.{State, tallyAt, cellAt, freshTally, emptyCell}
 use Rattle.state.specs.Words.{flowWords, registerWords, cellWords, stateWords}
 use Rattle.state.specs.Read.{sxIn, syIn, countIn, clockIn, flowIn, tallyIn, registerIn, cellIn, routerIn, planIn, stateOf}
-use Rattle.state.specs.Layout.{planSize}
 use Rattle.state.proofs.Words.{length-register}
 use Rattle.state.proofs.Holds.{HoldsState, words-hold}
 

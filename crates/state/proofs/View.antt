@@ -6,10 +6,9 @@ use lib.ListN.{length}
 use Rattle.laws.proofs.Bounded.{length-tabulate, getD-tabulate}
 use Rattle.laws.proofs.Grid.{length-grid, getD-grid}
 use Rattle.flow.specs.Plan.{flowAt, noFlow}
-use Rattle.state.specs.Layout.{flowPlace}
+use Rattle.state.specs.Layout.{flowPlace, planSize}
 use Rattle.state.specs.State.{tallyAt, cellAt, freshTally, emptyCell}
 use Rattle.state.specs.Read.{sxIn, syIn, countIn, flowIn, tallyIn, cellIn, routerIn, planIn, stateOf}
-use Rattle.state.specs.Layout.{planSize}
 use Rattle.state.specs.Forms.{sizeIn}
 use Rattle.state.proofs.Read.{Sized}
 

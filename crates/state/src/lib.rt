@@ -8,11 +8,9 @@ ghost use lib.ListN.{length, set};
 ghost use lib.Seq.{sets};
 ghost use Rattle.laws.specs.Grid.{cellIndex};
 ghost use Rattle.flow.specs.Plan.{mostSize, mostFlows};
-ghost use Rattle.state.specs.Layout.{headerSize, clockPlace, flowSize, numberSize, registerSize, routerSize};
-ghost use Rattle.state.specs.Inner.{mostRouters};
-ghost use Rattle.state.specs.Layout.{flowPlace, routerPlace, stateSize};
+ghost use Rattle.state.specs.Layout.{headerSize, clockPlace, flowSize, numberSize, registerSize, routerSize, flowPlace, routerPlace, stateSize};
+ghost use Rattle.state.specs.Inner.{mostRouters, flowOf};
 ghost use Rattle.state.specs.Words.{numberWords, tallyWords, registerWords};
-ghost use Rattle.state.specs.Inner.{flowOf};
 ghost use Rattle.state.specs.Read.{flowIn, tallyIn, registerIn, cellIn};
 
 // The words in front of the flows: Sx, Sy, F, clock, four zeros.
