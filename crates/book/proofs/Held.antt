@@ -11,7 +11,7 @@ use Rattle.flow.specs.Plan.{Plan, flowAt}
 use Rattle.place.specs.Place.{Place}
 use Rattle.book.specs.Line.{Line, standsIn}
 use Rattle.book.specs.Book.{Book}
-use Rattle.book.specs.Cycle.{linesIn, flowOf, holds}
+use Rattle.book.specs.Cycle.{linesIn, firstFlow, holds}
 
 -- no two lines share a place
 abbrev pub Apart : Book → Type 0
@@ -27,7 +27,7 @@ module _ (p : Plan) (b : Book) (at : Place) where
   unfolding holds
   held = pick (linesIn b at) refl
     where
-      pick : (ls : List Line) → linesIn b at ≡ ls → Holder (flowOf p ls)
+      pick : (ls : List Line) → linesIn b at ≡ ls → Holder (firstFlow p ls)
       pick [] e = no-line e
       pick (l ∷ ls) e =
           let k = kept (λ (z : Line). standsIn at (z .stage)) (b .lines) (subst (λ (zs : List Line). Mem l zs) (sym e) (here refl)) in
@@ -48,4 +48,4 @@ module _ (p : Plan) (b : Book) (at : Place) where
 
     pub holds-own : holds p b at ≡ some (flowAt p (l .flow))
     unfolding holds
-    holds-own = ap (flowOf p) lines-own
+    holds-own = ap (firstFlow p) lines-own

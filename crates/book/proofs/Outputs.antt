@@ -142,9 +142,9 @@ module _ (p : Plan) (b : Book) (x y : ℕ) where
     from : (o : Way) (l : Line) → Mem l (b .lines) → Source o l (l .stage)
     from o l m = source o l (l .stage) (λ at h. holds-own p b at apart l m h)
 
-    pub leaving : (o : Way) → outgoing p b x y o
+    pub outgoing-is : (o : Way) → outgoing p b x y o
         ≡ cond (takes s (W x y) o) (linesIn b (W x y)) (cond (takes s (N x y) o) (linesIn b (N x y)) (entrantsOf p b o (entrant p (view p b) x y)))
-    leaving o =
+    outgoing-is o =
         elim (test (takes s (W x y) o)) [
           | inl w ↦ rw w (keep-same _ _ (b .lines) (λ l m. west w l (from o l m)))
           | inr w ↦ elim (test (takes s (N x y) o)) [
@@ -171,7 +171,7 @@ module _ (p : Plan) (b : Book) (x y : ℕ) where
     -- one way out carries one packet
     pub one-output : Queued b → (o : Way) → length (outgoing p b x y o) ≤ 1
     one-output q o =
-        rw (leaving o)
+        rw (outgoing-is o)
         (elim (test (takes s (W x y) o)) [
           | inl w ↦ rw (w, length-keep (λ l. standsIn (W x y) (l .stage)) (b .lines)) (apart (W x y))
           | inr w ↦ elim (test (takes s (N x y) o)) [

@@ -48,17 +48,17 @@ pub data Case : Type 0 where
   -- the tokens of flow 0 after a list of calls
   tokens : Plan → List Call → ℕ → Case
 
-abbrev pub Holds : Case → Type 0
-Holds (offsets f dx dy) = (ΔX 4 f ≡ dx) × (ΔY 4 f ≡ dy)
-Holds (bound f n) = flightBound 4 4 f ≡ n
-Holds (spread p j) = conflict 4 4 (flowAt p 0) (flowAt p 1) ≡ Spread j
-Holds (window p answer) = windowAnswer (planBytes [] p) 0 ≡ answer
-Holds (delivers p cs ds ts) = (run p cs .delivered ≡ ds) × (map (λ (d : Delivery). flight (d .entry) (d .exit)) ds ≡ ts)
-Holds (tokens p cs n) = (bucketAt (run p cs .book) 0) .tokens ≡ n
+abbrev pub Says : Case → Type 0
+Says (offsets f dx dy) = (ΔX 4 f ≡ dx) × (ΔY 4 f ≡ dy)
+Says (bound f n) = flightBound 4 4 f ≡ n
+Says (spread p j) = conflict 4 4 (flowAt p 0) (flowAt p 1) ≡ Spread j
+Says (window p answer) = windowAnswer (planBytes [] p) 0 ≡ answer
+Says (delivers p cs ds ts) = (run p cs .delivered ≡ ds) × (map (λ (d : Delivery). flight (d .entry) (d .exit)) ds ≡ ts)
+Says (tokens p cs n) = (bucketAt (run p cs .book) 0) .tokens ≡ n
 
 abbrev pub AllHold : List Case → Type 0
 AllHold [] = Unit
-AllHold (c ∷ cs) = Holds c × AllHold cs
+AllHold (c ∷ cs) = Says c × AllHold cs
 
 -- where a case of 01 names no period or burst, 9 and 1 stand for them
 abbrev far : Flow

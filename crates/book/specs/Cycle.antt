@@ -23,13 +23,13 @@ abbrev pub linesIn : Book → Place → List Line
 linesIn b at = keep (λ l. standsIn at (l .stage)) (b .lines)
 
 -- the flow of the first of these lines; no two lines share a place
-abbrev pub flowOf : Plan → List Line → Option Flow
-flowOf p [] = none
-flowOf p (l ∷ ls) = some (flowAt p (l .flow))
+abbrev pub firstFlow : Plan → List Line → Option Flow
+firstFlow p [] = none
+firstFlow p (l ∷ ls) = some (flowAt p (l .flow))
 
 -- the flow of the packet in a register, where there is one
 unfoldable pub holds : Plan → Book → Place → Option Flow
-holds p b at = flowOf p (linesIn b at)
+holds p b at = firstFlow p (linesIn b at)
 
 -- what the router in column x and row y sees
 abbrev pub seen : Plan → Book → (x y : ℕ) → Seen

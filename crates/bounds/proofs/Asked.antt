@@ -13,14 +13,14 @@ use Rattle.plan.specs.declared.Answer.{Answer}
 use Rattle.plan.specs.declared.Answer.the-variants.{Done, Refused}
 use Rattle.plan.specs.declared.Trailer.{Trailer}
 use Rattle.plan.specs.Layout.{trailerOf, planOf}
-use Rattle.plan.specs.Refusals.{orElse, planAnswer}
+use Rattle.plan.specs.Refusals.{refusedOr, planAnswer}
 use Rattle.bounds.specs.Bounds.{asked}
-use Rattle.bounds.specs.Inner.{Opened, FlowOf}
+use Rattle.bounds.specs.Inner.{Opened, FlowInFile}
 use Rattle.bounds.proofs.Opened.{opened-count}
 
 -- the refusal of a plan or of a flow number does not depend on what would be answered
 refused-first : (plan : Answer) (b : Bool) (n place : ℕ) (a : Answer)
-    → orElse plan (cond b (Done 0) (Refused 12 0)) ≡ Refused n place → orElse plan (cond b a (Refused 12 0)) ≡ Refused n place
+    → refusedOr plan (cond b (Done 0) (Refused 12 0)) ≡ Refused n place → refusedOr plan (cond b a (Refused 12 0)) ≡ Refused n place
 refused-first (Refused m q) b n place a e = e
 refused-first (Done v) false n place a e = e
 refused-first (Done v) true n place a e =
@@ -42,7 +42,7 @@ pub asked-done : (file : List ℕ) (f v : ℕ) → asked file f (Done 0) ≡ Don
 unfolding asked
 asked-done file f v e = go (planAnswer file) refl e
   where
-    go : (plan : Answer) → planAnswer file ≡ plan → orElse plan (cond (ltb f (length (planOf file .flows))) (Done 0) (Refused 12 0)) ≡ Done v → Known file f
+    go : (plan : Answer) → planAnswer file ≡ plan → refusedOr plan (cond (ltb f (length (planOf file .flows))) (Done 0) (Refused 12 0)) ≡ Done v → Known file f
     go (Refused n place) p q =
         let never : _≡_ {A = ℕ} 0 1 = cc in
         absurd (omega arith)
@@ -56,7 +56,7 @@ asked-done file f v e = go (planAnswer file) refl e
         ]
 
 -- with the trailer that was read
-pub known-flow : (file : List ℕ) (f : ℕ) (t : Trailer) → Known file f → t ≡ trailerOf file → FlowOf file t f
+pub known-flow : (file : List ℕ) (f : ℕ) (t : Trailer) → Known file f → t ≡ trailerOf file → FlowInFile file t f
 known-flow file f t k e =
     let o : Opened file t = record { value = k .value; done = k .done; trailer = e } in
     record { opened = o; below = rw (opened-count file t o) at (k .below) }

@@ -11,7 +11,7 @@ use Rattle.plan.specs.declared.Answer.{Answer}
 use Rattle.plan.specs.declared.Answer.the-variants.{Done, Refused}
 use Rattle.plan.specs.declared.Trailer.{Trailer}
 use Rattle.plan.specs.Refusals as Refusals
-use Rattle.plan.specs.Refusals.{answerBy, orElse, sizeOk, headerNumber, trailerNumber, recordNumber, flowNumber, firstRefused, recordsAnswer, planAnswer}
+use Rattle.plan.specs.Refusals.{answerBy, refusedOr, sizeOk, headerNumber, trailerNumber, recordNumber, flowNumber, firstRefused, recordsAnswer, planAnswer}
 use Rattle.plan.specs.Layout.{mostFile, recordSize, trailerSize, tagged, trailerOf, planOf}
 use Rattle.window.specs.declared.Window.{Window}
 use Rattle.window.specs.declared.Window.the-variants.{At, Nothing}
@@ -19,7 +19,7 @@ use Rattle.window.specs.Window.{windowOf}
 use Rattle.bounds.specs.Bounds.{asked, windowBy, windowAnswer}
 use Rattle.bounds.specs.Inner.{NumberMost}
 
-or-else-most : (m : ℕ) (a b : Answer) → NumberMost m a → NumberMost m b → NumberMost m (orElse a b)
+or-else-most : (m : ℕ) (a b : Answer) → NumberMost m a → NumberMost m b → NumberMost m (refusedOr a b)
 or-else-most m (Done v) b h k = k
 or-else-most m (Refused n place) b h k = h
 

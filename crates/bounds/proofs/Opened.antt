@@ -12,7 +12,7 @@ use Rattle.plan.specs.Layout.{flowFrom, planOf, recordSize, trailerSize}
 use Rattle.plan.proofs.Accepted.{Trailed, done-trailed}
 use Rattle.plan.proofs.Ranges.{Bytes, plan-flow, plan-count, plan-ok}
 use Rattle.window.specs.Rivals.{Pair}
-use Rattle.bounds.specs.Inner.{Opened, FlowOf}
+use Rattle.bounds.specs.Inner.{Opened, FlowInFile}
 
 module _ (file : List ℕ) (t : Trailer) (o : Opened file t) where
   frame : Trailed file
@@ -35,7 +35,7 @@ module _ (file : List ℕ) (t : Trailer) (o : Opened file t) where
   pub opened-few : t .count ≤ mostFlows
   opened-few = rw (o .trailer) (frame .frame .count-most)
 
-module _ (file : List ℕ) (t : Trailer) (f : ℕ) (k : FlowOf file t f) where
+module _ (file : List ℕ) (t : Trailer) (f : ℕ) (k : FlowInFile file t f) where
   -- its record stands in the file
   pub flow-long : t .start + recordSize * f + recordSize ≤ length file
   flow-long =
@@ -46,7 +46,7 @@ module _ (file : List ℕ) (t : Trailer) (f : ℕ) (k : FlowOf file t f) where
   pub flow-read : flowFrom file (t .start + recordSize * f) ≡ flowAt (planOf file) f
   flow-read = rw (k .opened .trailer) (sym (plan-flow file _ (k .opened .done) f (rw (k .opened .trailer) at (k .below))))
 
-  pub flow-pair : Bytes file → (g : ℕ) → FlowOf file t g → Pair (t .sx) (t .sy) (flowAt (planOf file) f) (flowAt (planOf file) g)
+  pub flow-pair : Bytes file → (g : ℕ) → FlowInFile file t g → Pair (t .sx) (t .sy) (flowAt (planOf file) f) (flowAt (planOf file) g)
   flow-pair bytes g l =
       let o = k .opened in
       let ok = opened-ok file t o bytes in

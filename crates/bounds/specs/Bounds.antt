@@ -8,7 +8,7 @@ use Rattle.flow.specs.Plan.{Plan, flowAt}
 use Rattle.plan.specs.declared.Answer.{Answer}
 use Rattle.plan.specs.declared.Answer.the-variants.{Done, Refused}
 use Rattle.plan.specs.Layout.{planOf}
-use Rattle.plan.specs.Refusals.{orElse, planAnswer}
+use Rattle.plan.specs.Refusals.{refusedOr, planAnswer}
 use Rattle.window.specs.declared.Window.{Window}
 use Rattle.window.specs.declared.Window.the-variants.{At, Nothing}
 use Rattle.window.specs.Window.{windowOf}
@@ -16,7 +16,7 @@ use Rattle.window.specs.Flight.{flightBound}
 
 -- a call on a flow of a plan file: the plan's refusals, then 12: flow number F or more
 unfoldable pub asked : List ℕ → ℕ → Answer → Answer
-asked file f answer = orElse (planAnswer file) (cond (ltb f (length (planOf file .flows))) answer (Refused 12 0))
+asked file f answer = refusedOr (planAnswer file) (cond (ltb f (length (planOf file .flows))) answer (Refused 12 0))
 
 -- T, or 14: no window T, with the flow as place
 abbrev pub windowBy : ℕ → Window → Answer

@@ -15,7 +15,7 @@ pub record Opened (file : List ℕ) (t : Trailer) : Type 0 where
   pub trailer : t ≡ trailerOf file
 
 -- flow number f of such a file
-pub record FlowOf (file : List ℕ) (t : Trailer) (f : ℕ) : Type 0 where
+pub record FlowInFile (file : List ℕ) (t : Trailer) (f : ℕ) : Type 0 where
   pub opened : Opened file t
   pub below : f < t .count
 

@@ -11,12 +11,12 @@ ghost use Rattle.plan.specs.declared.Answer.the-variants.{Done};
 ghost use Rattle.plan.specs.Layout.{planOf};
 ghost use Rattle.window.specs.Window.{windowOf};
 ghost use Rattle.window.specs.Rivals.{rivalWords, RivalsAmong};
-ghost use Rattle.bounds.specs.Inner.{FlowOf};
+ghost use Rattle.bounds.specs.Inner.{FlowInFile};
 ghost use Rattle.bounds.specs.Bounds.{asked, windowAnswer, flightBoundAnswer, flightBoundOf};
 
 // Flow number f of an accepted file.
 pub fn flow_at(file: &[u8], t: Trailer, f: u32) -> Flow
-    requires { ⌜ FlowOf (now file) t f ⌝ }
+    requires { ⌜ FlowInFile (now file) t f ⌝ }
     ensures { λ r. ⌜ r ≡ flowAt (planOf (now (file .entry))) f ⌝ }
 {
     plan::flow_from(file, (t.start as usize) + plan::RECORD_SIZE * (f as usize))
@@ -24,7 +24,7 @@ pub fn flow_at(file: &[u8], t: Trailer, f: u32) -> Flow
 
 // Flow g, after the n rivals of flow f among the flows before it.
 fn meet(file: &[u8], t: Trailer, own: Flow, f: u32, g: u32, rivals: &mut [u32], n: usize) -> usize
-    requires { ⌜ (FlowOf (now file) t f) × (FlowOf (now file) t g) ⌝ }
+    requires { ⌜ (FlowInFile (now file) t f) × (FlowInFile (now file) t g) ⌝ }
     requires { ⌜ own ≡ flowAt (planOf (now file)) f ⌝ }
     requires { ⌜ RivalsAmong (planOf (now file)) f g (now rivals) n ⌝ }
     ensures { λ r. ⌜ RivalsAmong (planOf (now (file .entry))) f (g + 1) (now (rivals .exit)) r ⌝ }
@@ -39,7 +39,7 @@ fn meet(file: &[u8], t: Trailer, own: Flow, f: u32, g: u32, rivals: &mut [u32], 
 
 // The rivals of flow f, found once; they are as many as is answered.
 fn find_rivals(file: &[u8], t: Trailer, f: u32, rivals: &mut [u32]) -> usize
-    requires { ⌜ (FlowOf (now file) t f) × (rivalWords * t .count ≤ length (now rivals)) ⌝ }
+    requires { ⌜ (FlowInFile (now file) t f) × (rivalWords * t .count ≤ length (now rivals)) ⌝ }
     ensures { λ r. ⌜ RivalsAmong (planOf (now (file .entry))) f (t .count) (now (rivals .exit)) r ⌝ }
 {
     let own = flow_at(file, t, f);
@@ -53,7 +53,7 @@ fn find_rivals(file: &[u8], t: Trailer, f: u32, rivals: &mut [u32]) -> usize
 
 // The window T of flow f of an accepted file, with room for its rivals.
 fn window_in(file: &[u8], t: Trailer, f: u32, rivals: &mut [u32]) -> Window
-    requires { ⌜ (FlowOf (now file) t f) × (rivalWords * t .count ≤ length (now rivals)) ⌝ }
+    requires { ⌜ (FlowInFile (now file) t f) × (rivalWords * t .count ≤ length (now rivals)) ⌝ }
     ensures { λ r. ⌜ r ≡ windowOf (planOf (now (file .entry))) f ⌝ }
 {
     let n = find_rivals(file, t, f, rivals);
@@ -62,7 +62,7 @@ fn window_in(file: &[u8], t: Trailer, f: u32, rivals: &mut [u32]) -> Window
 
 // The window T of flow f of an accepted file. Few flows need little room.
 pub fn window_of(file: &[u8], t: Trailer, f: u32) -> Window
-    requires { ⌜ FlowOf (now file) t f ⌝ }
+    requires { ⌜ FlowInFile (now file) t f ⌝ }
     ensures { λ r. ⌜ r ≡ windowOf (planOf (now (file .entry))) f ⌝ }
 {
     if t.count <= 64 {
@@ -75,7 +75,7 @@ pub fn window_of(file: &[u8], t: Trailer, f: u32) -> Window
 
 // The flight bound of flow f of an accepted file.
 pub fn flight_bound_of(file: &[u8], t: Trailer, f: u32) -> u32
-    requires { ⌜ FlowOf (now file) t f ⌝ }
+    requires { ⌜ FlowInFile (now file) t f ⌝ }
     ensures { λ r. ⌜ r ≡ flightBoundOf (planOf (now (file .entry))) f ⌝ }
 {
     window::flight_bound(t.sx, t.sy, flow_at(file, t, f))

@@ -4,7 +4,7 @@ use Prim.Native.Nat.{ℕ, _+_, _*_}
 use lib.ListN.{length}
 use Rattle.plan.specs.declared.Answer.{Answer}
 use Rattle.plan.specs.declared.Answer.the-variants.{Done, Refused}
-use Rattle.plan.specs.Refusals.{orElse, planAnswer}
+use Rattle.plan.specs.Refusals.{refusedOr, planAnswer}
 use Rattle.plan.specs.Notes.{notesOf}
 use Rattle.state.specs.Outcome.{Outcome, outcome}
 
@@ -20,7 +20,7 @@ answerWord (Refused number place) = number * 4294967296 + place
 
 -- reading: the length of the notes, which lead the file
 unfoldable pub notesAnswer : List ℕ → Answer
-notesAnswer file = orElse (planAnswer file) (Done (length (notesOf file)))
+notesAnswer file = refusedOr (planAnswer file) (Done (length (notesOf file)))
 
 -- a call's outcome with its answer as that number
 abbrev pub inWords : {M : Type 0} → Outcome Answer M → Outcome ℕ M

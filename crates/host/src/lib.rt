@@ -1,4 +1,4 @@
-// The C interface, declared in include/hrt.h: thin, over the calls of plan, bounds, reset, writing and cycle.
+// The C interface, declared in include/hrt.h: thin, over the calls of plan, bounds, reset, writing and engine.
 use plan::Answer;
 ghost use mathlib.Core.Path.{_≡_};
 ghost use Rattle.bounds.specs.Bounds.{windowAnswer, flightBoundAnswer};

@@ -7,7 +7,7 @@ use native.Mathlib.Numerals.{add-one}
 use native.Mathlib.Omega.{arith}
 use Rattle.plan.specs.declared.Answer.{Answer}
 use Rattle.plan.specs.declared.Answer.the-variants.{Done, Refused}
-use Rattle.plan.specs.Refusals.{answerBy, orElse, firstRefused}
+use Rattle.plan.specs.Refusals.{answerBy, refusedOr, firstRefused}
 
 pub answer-refused : (n place : ℕ) → (n ≡ 0 → ⊥) → Refused n place ≡ answerBy n place
 answer-refused zero place h = absurd (h refl)
@@ -20,7 +20,7 @@ answer-done (suc n) place v e =
     absurd (omega arith)
 
 -- a call whose parts are all accepted
-pub or-else-done : (a later : Answer) (v : ℕ) → orElse a later ≡ Done v → (w : ℕ) × (a ≡ Done w) × (later ≡ Done v)
+pub or-else-done : (a later : Answer) (v : ℕ) → refusedOr a later ≡ Done v → (w : ℕ) × (a ≡ Done w) × (later ≡ Done v)
 or-else-done (Done w) later v e = (w, refl, e)
 or-else-done (Refused n place) later v e =
     let z : _≡_ {A = ℕ} 0 1 = cc in

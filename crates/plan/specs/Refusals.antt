@@ -17,9 +17,9 @@ answerBy zero place = Done 0
 answerBy (suc n) place = Refused (suc n) place
 
 -- a refusal comes before whatever is checked later
-abbrev pub orElse : Answer → Answer → Answer
-orElse (Done v) later = later
-orElse (Refused number place) later = Refused number place
+abbrev pub refusedOr : Answer → Answer → Answer
+refusedOr (Done v) later = later
+refusedOr (Refused number place) later = Refused number place
 
 -- Sx and Sy are 1..16
 abbrev pub sizeOk : ℕ → Bool
@@ -48,7 +48,7 @@ recordNumber sx sy f last =
 -- the first of n places whose number is not 0, with that number
 unfoldable pub firstRefused : (ℕ → ℕ) → ℕ → Answer
 firstRefused number zero = Done 0
-firstRefused number (suc n) = orElse (firstRefused number n) (answerBy (number n) n)
+firstRefused number (suc n) = refusedOr (firstRefused number n) (answerBy (number n) n)
 
 -- what flow f is refused for, or 0
 unfoldable pub flowNumber : List ℕ → Trailer → ℕ → ℕ
@@ -61,4 +61,4 @@ abbrev pub recordsAnswer : List ℕ → Trailer → Answer
 recordsAnswer file t = firstRefused (flowNumber file t) (t .count)
 
 unfoldable pub planAnswer : List ℕ → Answer
-planAnswer file = orElse (answerBy (trailerNumber file) 0) (recordsAnswer file (trailerOf file))
+planAnswer file = refusedOr (answerBy (trailerNumber file) 0) (recordsAnswer file (trailerOf file))

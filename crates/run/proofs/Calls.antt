@@ -31,7 +31,7 @@ use Rattle.run.proofs.View.{tally-at}
 use Rattle.run.proofs.Step.{step-follows}
 use Rattle.run.proofs.Delivery.{deliveries-follow}
 use Rattle.run.proofs.Offer.{offer-follows}
-use Rattle.run.proofs.Memory.{image, view, plan-is, image-again, number}
+use Rattle.run.proofs.Memory.{image, state-is, plan-is, image-again, number}
 
 module _ (p : Plan) (b : Book) (k : Kept p b) (tail : List ℕ) where
   abbrev w : List ℕ
@@ -70,13 +70,13 @@ module _ (p : Plan) (b : Book) (k : Kept p b) (tail : List ℕ) where
   pub offer-on : (f : ℕ) → let now : Fed = feed p b (Feed.offer f) in
       onWords (offer f) w ≡ outcome (now .reply) (lent (image p (now .book) tail) (over (wordsOf (now .delivered)) []))
   unfolding offerOn unless feed
-  offer-on f = rw (number p b tail k, view p b tail, offer-number f) (offer-by f (refusal p b (Feed.offer f)) refl)
+  offer-on f = rw (number p b tail k, state-is p b tail, offer-number f) (offer-by f (refusal p b (Feed.offer f)) refl)
 
   pub step-on : (delivery : List ℕ) → let now : Fed = feed p b (Feed.step (length delivery)) in
       onWords (step delivery) w ≡ outcome (now .reply) (lent (image p (now .book) tail) (over (wordsOf (now .delivered)) delivery))
   unfolding stepOn unless feed
   step-on delivery =
-      rw (number p b tail k, view p b tail, step-number (length delivery)) (step-by delivery (refusal p b (Feed.step (length delivery))))
+      rw (number p b tail k, state-is p b tail, step-number (length delivery)) (step-by delivery (refusal p b (Feed.step (length delivery))))
 
   pub write-on : (notes target : List ℕ) → let o : Outcome Answer (List ℕ) = bytesOn (planBytes notes p) target in
       onWords (write notes target) w ≡ outcome (o .answer) (lent w (o .memory))

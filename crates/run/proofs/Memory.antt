@@ -68,8 +68,8 @@ module _ (p : Plan) (b : Book) where
     stands : Stands 0 (image p b tail) 0 (stateWords (bookState p b))
     stands = stands-first 0 (stateWords (bookState p b)) tail
 
-    pub view : stateOf (image p b tail) ≡ bookState p b
-    view = read-back (bookState p b) tail sized
+    pub state-is : stateOf (image p b tail) ≡ bookState p b
+    state-is = read-back (bookState p b) tail sized
 
     pub plan-is : planIn (image p b tail) ≡ p
     unfolding bookState

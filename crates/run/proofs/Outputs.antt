@@ -26,7 +26,7 @@ use Rattle.book.specs.Cycle.{linesIn, seen, view, enters, isDeflected, lowest, 
 use Rattle.book.proofs.Moves.{goes, sent-entry, Turn, keeps, stays, comes, turn}
 use Rattle.book.proofs.Queue.{lowest-next, goes-count}
 use Rattle.book.proofs.Traced.{Sound}
-use Rattle.book.proofs.Outputs.{outgoing, entrantsOf, leaving}
+use Rattle.book.proofs.Outputs.{outgoing, entrantsOf, outgoing-is}
 use Rattle.book.proofs.Kept.{Kept}
 use Rattle.state.specs.declared.Register.the-variants.{Empty, Packet}
 use Rattle.cycle.specs.Step.{onward, entering, sendsBy, sentBy, carried}
@@ -120,7 +120,7 @@ module _ (p : Plan) (b : Book) (k : Kept p b) where
         ≡ holding (map (move p b) (outgoing p b x y o))
     unfolding sentBy
     by-source =
-        rw (leaving p b x y (k .apart) o)
+        rw (outgoing-is p b x y (k .apart) o)
         (elim (test (takes (seen p b x y) (W x y) o)) [
           | inl w ↦ rw w (network p b (W x y))
           | inr w ↦ elim (test (takes (seen p b x y) (N x y) o)) [ inl n ↦ rw (w, n) (network p b (N x y)) | inr n ↦ rw (w, n) (client x y o) ]

@@ -15,7 +15,7 @@ use Rattle.router.specs.Rule.{entrant}
 use Rattle.router.proofs.Entrant.{Agree, entrant-same, enters-same}
 use Rattle.book.specs.Line.{Line}
 use Rattle.book.specs.Book.{Book, waitsFor}
-use Rattle.book.specs.Cycle.{linesIn, flowOf, holds}
+use Rattle.book.specs.Cycle.{linesIn, firstFlow, holds}
 use Rattle.book.specs.Cycle as Cycle
 use Rattle.state.specs.declared.Cell.{Cell}
 use Rattle.state.specs.declared.Tally.{Tally}
@@ -38,7 +38,7 @@ module _ (p : Plan) (b : Book) where
   unfolding registerOf holds
   shown-same at = shows (linesIn b at)
     where
-      shows : (ls : List Line) → shown p (holding ls) ≡ flowOf p ls
+      shows : (ls : List Line) → shown p (holding ls) ≡ firstFlow p ls
       shows [] = refl
       shows (l ∷ ls) = refl
 

@@ -9,7 +9,7 @@ ghost use Prim.Native.Nat.{_+_, _*_, _<_, _≤_};
 ghost use lib.ListN.{length};
 ghost use Rattle.laws.specs.Written.{Wrote};
 ghost use Rattle.plan.specs.Layout.{planOf};
-ghost use Rattle.bounds.specs.Inner.{Opened, FlowOf};
+ghost use Rattle.bounds.specs.Inner.{Opened, FlowInFile};
 ghost use Rattle.table.specs.Decimal.{decimal};
 ghost use Rattle.table.specs.Table.{field, noField, portField, windowField, waitField, row, line, lines, refusedLine, tableOf};
 ghost use Rattle.table.specs.Inner.{mostDigits, mostField, mostLine, mostTable, WaitFits};
@@ -119,7 +119,7 @@ fn put_row(
 
 // The line of flow f of an accepted file.
 fn put_line(file: &[u8], t: Trailer, f: u32, out: &mut [u8], at: usize) -> usize
-    requires { ⌜ (FlowOf (now file) t f) × (at + mostLine ≤ length (now out)) ⌝ }
+    requires { ⌜ (FlowInFile (now file) t f) × (at + mostLine ≤ length (now out)) ⌝ }
     ensures { λ r. ⌜ Wrote (now (out .entry)) at (line (planOf (now (file .entry))) f) r (now (out .exit)) ⌝ }
     ensures { λ r. ⌜ r ≤ at + mostLine ⌝ }
 {

@@ -1,4 +1,5 @@
--- Laws of offsets and neighbours for every size and all places below it. Rests on specs/Axis; nothing above opens that but the starred cases, which compute.
+-- Laws of offsets and neighbours for every size and all places below it. Rests on specs/Axis; above it only the starred cases,
+-- which compute, open that.
 use mathlib.Core.Path.{_≡_, sym}
 use mathlib.Core.Logic.{_⊎_, inl, inr, _≢_}
 use Prim.Native.Nat.{ℕ, _+_, _-_, _≤_, _<_}

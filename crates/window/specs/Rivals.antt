@@ -43,7 +43,7 @@ rivalRate l k = wholeLink / getD l (rivalWords * k + 1) 0
 unfoldable pub ratesOf : List ℕ → ℕ → ℕ
 ratesOf l n = sumBelow n (rivalRate l)
 
--- the largest spread: fewer than 16 rows, at most 16 columns
+-- no spread is larger: fewer than 16 rows, of at most 16 columns each
 abbrev pub mostSpread : ℕ
 mostSpread = 256
 

@@ -25,7 +25,7 @@ use Rattle.state.specs.Writing.{bytesOn}
 use Rattle.state.proofs.Forms.{StateFacts}
 use Rattle.state.proofs.Over.{over-sets}
 use Rattle.state.proofs.View.{view-count}
-use Rattle.writing.specs.Parts.{recordsIn, trailerOf, fileSize}
+use Rattle.writing.specs.Parts.{recordsIn, trailerFrom, fileSize}
 
 pub record-length : (f : Flow) → length (recordBytes f) ≡ recordSize
 unfolding recordBytes twoBytes
@@ -62,7 +62,7 @@ module _ (w : List ℕ) where
   unfolding planIn
   flow-records = records-join (countIn w) (λ f. flowIn w (flowPlace f))
 
-  trailer-is : (start : ℕ) → trailerOf start (countIn w) (sxIn w) (syIn w) ≡ trailerBytes start (planIn w)
+  trailer-is : (start : ℕ) → trailerFrom start (countIn w) (sxIn w) (syIn w) ≡ trailerBytes start (planIn w)
   unfolding trailerBytes fourBytes twoBytes planIn
   trailer-is start = rw (view-count w)
 
@@ -86,7 +86,7 @@ module _ (w : List ℕ) where
     -- the three runs of stores leave the file's bytes, and what lies past them
     pub file-sets : (target : List ℕ) → fileSize notes w ≤ length target
         → sets (sets (sets target 0 notes) (length notes) (recordsIn w (countIn w)))
-        (length notes + recordSize * countIn w) (trailerOf (length notes) (countIn w) (sxIn w) (syIn w))
+        (length notes + recordSize * countIn w) (trailerFrom (length notes) (countIn w) (sxIn w) (syIn w))
         ≡ over (planBytes notes (planIn w)) target
     unfolding planBytes
     file-sets target h =

@@ -14,8 +14,8 @@ abbrev pub recordsIn : (w : List ℕ) → (count : ℕ) → List ℕ
 recordsIn w count = joinBelow count (λ f. recordBytes (flowIn w (flowPlace f)))
 
 -- the trailer, by its numbers
-abbrev pub trailerOf : (start count sx sy : ℕ) → List ℕ
-trailerOf start count sx sy = fourBytes start ++ (twoBytes count ++ (sx ∷ sy ∷ [])) ++ tag
+abbrev pub trailerFrom : (start count sx sy : ℕ) → List ℕ
+trailerFrom start count sx sy = fourBytes start ++ (twoBytes count ++ (sx ∷ sy ∷ [])) ++ tag
 
 -- the file's length
 abbrev pub fileSize : (notes w : List ℕ) → ℕ

@@ -15,7 +15,7 @@ ghost use Rattle.state.specs.Read.{countIn, planIn};
 ghost use Rattle.state.specs.Outcome.{outcome, over};
 ghost use Rattle.state.specs.Writing.{bytesOn, writeOn};
 ghost use Rattle.state.proofs.Forms.{StateFacts};
-ghost use Rattle.writing.specs.Parts.{recordsIn, trailerOf, fileSize};
+ghost use Rattle.writing.specs.Parts.{recordsIn, trailerFrom, fileSize};
 
 // The most bytes of a file in front of its trailer.
 const MOST_BODY: usize = 65524;
@@ -95,7 +95,7 @@ fn put_tag(target: &mut [u8], at: usize)
 fn put_trailer(target: &mut [u8], at: usize, start: u32, count: u32, sx: u32, sy: u32)
     requires { ⌜ at + trailerSize ≤ length (now target) ⌝ }
     requires { ⌜ (sx ≤ mostSize) × (sy ≤ mostSize) ⌝ }
-    ensures { λ _. ⌜ now (target .exit) ≡ sets (now (target .entry)) at (trailerOf start count sx sy) ⌝ }
+    ensures { λ _. ⌜ now (target .exit) ≡ sets (now (target .entry)) at (trailerFrom start count sx sy) ⌝ }
 {
     put_start(target, at, start);
     put_sizes(target, at + 4, count, sx, sy);
