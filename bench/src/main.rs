@@ -23,6 +23,9 @@ const USAGE: &str =
 fn main() {
     let arguments: Vec<String> = std::env::args().skip(1).collect();
     let words: Vec<&str> = arguments.iter().map(String::as_str).collect();
+    if let Some(part) = words.first().filter(|part| is_left_out(part)) {
+        wrong(&format!("it is built without the part {part}"))
+    }
     match words[..] {
         #[cfg(feature = "bounds")]
         ["bounds"] => {
@@ -41,13 +44,21 @@ fn main() {
         ["listing", program] if !program.starts_with("--") => listing::time(program),
         ["plain-listing"] => listing::plain(),
         ["agree"] => agree(),
-        [part @ ("bounds" | "engine")] => wrong(&format!("it is built without the part {part}")),
         [part @ ("listing" | "desk")] => wrong(&format!("the part {part} takes a program")),
         ["bounds" | "engine" | "agree", word, ..]
         | ["listing" | "desk", _, word, ..]
         | ["listing" | "desk", word] => wrong(&format!("there is no option '{word}'")),
         [part, ..] => wrong(&format!("there is no part '{part}'")),
         [] => wrong("it takes a part"),
+    }
+}
+
+/// The part needs a feature that this build lacks.
+fn is_left_out(part: &str) -> bool {
+    match part {
+        "bounds" => !cfg!(feature = "bounds"),
+        "engine" | "desk" => !cfg!(feature = "engine"),
+        _ => false,
     }
 }
 
