@@ -17,7 +17,8 @@ use Rattle.state.specs.Inner.{mostRouters, flowOf}
 use Rattle.state.specs.State.{tallyAt, cellAt}
 use Rattle.state.specs.Read.{sxIn, syIn, countIn, clockIn, flowIn, registerIn, routerIn, stateOf}
 use Rattle.state.specs.Forms.{registerFits}
-use Rattle.state.proofs.Forms.{TallyFacts, StateFacts, packet-facts}
+use Rattle.state.specs.Facts.{TallyFacts, StateFacts}
+use Rattle.state.proofs.Forms.{packet-facts}
 use Rattle.state.proofs.View.{view-flow, view-tally, view-cell}
 use Rattle.state.proofs.Words.{router-below}
 use Rattle.cycle.specs.Sent.{deflectionsOf}

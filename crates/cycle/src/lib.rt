@@ -8,9 +8,8 @@ ghost use Prim.Native.Nat.{_<_};
 ghost use Rattle.flow.specs.Plan.{mostSize, flowAt};
 ghost use Rattle.router.specs.Rule.{turnsSouth};
 ghost use Rattle.state.specs.State.{tallyAt, cellAt};
-ghost use Rattle.state.specs.Inner.{flowOf};
-ghost use Rattle.state.specs.Read.{sxIn, syIn, countIn, stateOf};
-ghost use Rattle.state.proofs.Forms.{StateFacts};
+ghost use Rattle.state.specs.Read.{stateOf};
+ghost use Rattle.state.specs.Facts.{StateFlow, StateRouter, StatePacket};
 ghost use Rattle.cycle.specs.Seen.{shown};
 ghost use Rattle.cycle.specs.Step.{deflected};
 ghost use Rattle.cycle.specs.Sent.{deflectionsOf, isEmpty, orElse, sentEast, sentSouth, exits};
@@ -88,8 +87,7 @@ pub fn sent_south(turning: bool, west: Register, north: Register, client: Regist
 
 // The plan numbers of flow f.
 pub fn flow_at(state: &[u32], f: u32) -> Flow
-    requires { ⌜ StateFacts (now state) ⌝ }
-    requires { ⌜ f < countIn (now state) ⌝ }
+    requires { ⌜ StateFlow (now state) f ⌝ }
     ensures { λ r. ⌜ r ≡ flowAt ((stateOf (now (state .entry))) .plan) f ⌝ }
 {
     state::flow_in(state, state::flow_place(f as usize))
@@ -97,8 +95,7 @@ pub fn flow_at(state: &[u32], f: u32) -> Flow
 
 // Its bucket, entered and waiting.
 pub fn tally_at(state: &[u32], f: u32) -> Tally
-    requires { ⌜ StateFacts (now state) ⌝ }
-    requires { ⌜ f < countIn (now state) ⌝ }
+    requires { ⌜ StateFlow (now state) f ⌝ }
     ensures { λ r. ⌜ r ≡ tallyAt (stateOf (now (state .entry))) f ⌝ }
 {
     state::tally_in(state, state::flow_place(f as usize))
@@ -106,8 +103,7 @@ pub fn tally_at(state: &[u32], f: u32) -> Tally
 
 // The registers of the router in column x and row y.
 pub fn cell_at(state: &[u32], x: u32, y: u32) -> Cell
-    requires { ⌜ StateFacts (now state) ⌝ }
-    requires { ⌜ (x < sxIn (now state)) × (y < syIn (now state)) ⌝ }
+    requires { ⌜ StateRouter (now state) x y ⌝ }
     ensures { λ r. ⌜ r ≡ cellAt (stateOf (now (state .entry))) x y ⌝ }
 {
     let flows = state[state::FLOWS] as usize;
@@ -116,8 +112,7 @@ pub fn cell_at(state: &[u32], x: u32, y: u32) -> Cell
 
 // A W packet in column x goes S.
 pub fn turns_south(state: &[u32], x: u32, west: Register) -> bool
-    requires { ⌜ StateFacts (now state) ⌝ }
-    requires { ⌜ flowOf west < countIn (now state) ⌝ }
+    requires { ⌜ StatePacket (now state) west ⌝ }
     ensures { λ r. ⌜ r ≡ turnsSouth x (shown ((stateOf (now (state .entry))) .plan) west) ⌝ }
 {
     match west {
@@ -133,8 +128,7 @@ pub fn turns_south(state: &[u32], x: u32, west: Register) -> bool
 
 // A packet that goes S from the router in column x and row y exits there.
 pub fn exits(state: &[u32], x: u32, y: u32, r: Register) -> bool
-    requires { ⌜ StateFacts (now state) ⌝ }
-    requires { ⌜ flowOf r < countIn (now state) ⌝ }
+    requires { ⌜ StatePacket (now state) r ⌝ }
     ensures { λ e. ⌜ e ≡ exits ((stateOf (now (state .entry))) .plan) x y r ⌝ }
 {
     match r {

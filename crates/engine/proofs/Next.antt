@@ -19,7 +19,7 @@ use Rattle.state.specs.Words.{tallyWords, cellWords, stateWords}
 use Rattle.state.specs.Read.{sxIn, syIn, countIn, clockIn, planIn, stateOf}
 use Rattle.state.specs.Outcome.{over}
 use Rattle.state.proofs.Words.{length-cell}
-use Rattle.state.proofs.Forms.{StateFacts}
+use Rattle.state.specs.Facts.{StateFacts}
 use Rattle.state.proofs.View.{view-sized}
 use Rattle.state.proofs.Holds.{HoldsState, hold-same, hold-over, tally-written, clock-written, registers-written}
 use Rattle.state.proofs.Again.{state-again}

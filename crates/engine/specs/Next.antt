@@ -7,15 +7,22 @@ use lib.Seq.{sets}
 use Rattle.laws.specs.Turns.{turns}
 use Rattle.flow.specs.Limits.{lastClock, exitSize}
 use Rattle.state.specs.Layout.{clockPlace, flowPlace}
-use Rattle.state.specs.Read.{sxIn, syIn, countIn, clockIn}
-use Rattle.entry.specs.Entrants.{tallied}
+use Rattle.state.specs.Facts.{StateFacts}
+use Rattle.state.specs.Read.{sxIn, syIn, countIn, clockIn, stateOf}
+use Rattle.entry.specs.Entrants.{Entrants, tallied}
 use Rattle.routing.specs.Walk.{registersIn}
 
--- room for the next registers and for an exit at each router, and a clock that can go on
-pub record Room (w registers delivery : List ℕ) : Type 0 where
-  pub goes-on : clockIn w < lastClock
-  pub registers-fit : registersIn w ≤ length registers
+-- a state whose clock isn't the last, and room for an exit at each router
+pub record Stepping (w delivery : List ℕ) : Type 0 where
+  pub facts : StateFacts w
+  pub clock-below : clockIn w < lastClock
   pub delivery-fits : exitSize * (sxIn w * syIn w) ≤ length delivery
+
+-- with room for the entrants, of which there are none yet, and for the next registers
+pub record Room (w entrants registers delivery : List ℕ) : Type 0 where
+  pub stepping : Stepping w delivery
+  pub registers-fit : registersIn w ≤ length registers
+  pub no-entrants : Entrants (stateOf w) 0 entrants
 
 -- the words w, with every next tally, the next clock, and these registers behind the flows
 unfoldable pub nextWords : (w registers : List ℕ) → List ℕ

@@ -6,16 +6,15 @@ ghost use Prim.Native.Nat.{_+_, _*_, _<_, _≤_};
 ghost use lib.ListN.{length, take};
 ghost use lib.Seq.{sets};
 ghost use Rattle.state.specs.Words.{stateWords};
-ghost use Rattle.state.specs.Read.{sxIn, syIn, countIn, clockIn, stateOf};
-ghost use Rattle.state.specs.Forms.{stateNumber};
+ghost use Rattle.state.specs.Read.{countIn, stateOf};
 ghost use Rattle.state.specs.Outcome.{outcome, lent, over};
 ghost use Rattle.state.specs.State.{tallyAt};
-ghost use Rattle.flow.specs.Limits.{lastClock, exitSize, offerNumber, stepNumber};
+ghost use Rattle.flow.specs.Limits.{offerNumber, stepNumber};
 ghost use Rattle.router.specs.Delivery.{wordsOf};
-ghost use Rattle.state.proofs.Forms.{StateFacts};
-ghost use Rattle.entry.specs.Entrants.{Entrants};
+ghost use Rattle.state.specs.Facts.{StateFacts, StateFlow};
+ghost use Rattle.entry.specs.Entrants.{Entrants, AllEntered};
 ghost use Rattle.routing.specs.Walk.{registersIn, pushedAll};
-ghost use Rattle.engine.specs.Next.{Room, nextWords};
+ghost use Rattle.engine.specs.Next.{Stepping, Room, nextWords};
 ghost use Rattle.cycle.specs.Step.{stepState, deliveries, stepOn};
 ghost use Rattle.cycle.specs.Offer.{offerOn, offerState};
 
@@ -36,9 +35,7 @@ fn find_next(
     registers: &mut [u32],
     delivery: &mut [u32],
 ) -> u32
-    requires { ⌜ StateFacts (now state) ⌝ }
-    requires { ⌜ Room (now state) (now registers) (now delivery) ⌝ }
-    requires { ⌜ Entrants (stateOf (now state)) 0 (now entrants) ⌝ }
+    requires { ⌜ Room (now state) (now entrants) (now registers) (now delivery) ⌝ }
     ensures { λ _. ⌜ Entrants (stateOf (now (state .entry))) (countIn (now (state .entry))) (now (entrants .exit)) ⌝ }
     ensures { λ _. ⌜ now (registers .exit) ≡ pushedAll (now (state .entry)) (now (registers .entry)) ⌝ }
     ensures { λ r. ⌜ r ≡ length (deliveries (stateOf (now (state .entry)))) ⌝ }
@@ -50,9 +47,7 @@ fn find_next(
 
 // Writes the next tallies, clock and registers.
 fn store_next(state: &mut [u32], entrants: &[u32], registers: &[u32])
-    requires { ⌜ StateFacts (now state) ⌝ }
-    requires { ⌜ clockIn (now state) < lastClock ⌝ }
-    requires { ⌜ Entrants (stateOf (now state)) (countIn (now state)) (now entrants) ⌝ }
+    requires { ⌜ AllEntered (now state) (now entrants) ⌝ }
     requires { ⌜ registersIn (now state) ≤ length (now registers) ⌝ }
     ensures { λ _. ⌜ now (state .exit) ≡ nextWords (now (state .entry)) (now (registers .entry)) ⌝ }
 {
@@ -76,9 +71,7 @@ fn advance_in(
     registers: &mut [u32],
     delivery: &mut [u32],
 ) -> u32
-    requires { ⌜ StateFacts (now state) ⌝ }
-    requires { ⌜ Room (now state) (now registers) (now delivery) ⌝ }
-    requires { ⌜ Entrants (stateOf (now state)) 0 (now entrants) ⌝ }
+    requires { ⌜ Room (now state) (now entrants) (now registers) (now delivery) ⌝ }
     ensures { λ _. ⌜ now (state .exit) ≡ over (stateWords (stepState (stateOf (now (state .entry))))) (now (state .entry)) ⌝ }
     ensures { λ r. ⌜ r ≡ length (deliveries (stateOf (now (state .entry)))) ⌝ }
     ensures { λ _. ⌜ now (delivery .exit) ≡ over (wordsOf (deliveries (stateOf (now (state .entry))))) (now (delivery .entry)) ⌝ }
@@ -90,9 +83,7 @@ fn advance_in(
 
 // One cycle: the state's words, the exits' words, and their count. A small torus gets little room.
 fn advance(state: &mut [u32], delivery: &mut [u32]) -> u32
-    requires { ⌜ stateNumber (now state) ≡ 0 ⌝ }
-    requires { ⌜ clockIn (now state) < lastClock ⌝ }
-    requires { ⌜ exitSize * (sxIn (now state) * syIn (now state)) ≤ length (now delivery) ⌝ }
+    requires { ⌜ Stepping (now state) (now delivery) ⌝ }
     ensures { λ _. ⌜ now (state .exit) ≡ over (stateWords (stepState (stateOf (now (state .entry))))) (now (state .entry)) ⌝ }
     ensures { λ r. ⌜ r ≡ length (deliveries (stateOf (now (state .entry)))) ⌝ }
     ensures { λ _. ⌜ now (delivery .exit) ≡ over (wordsOf (deliveries (stateOf (now (state .entry))))) (now (delivery .entry)) ⌝ }
@@ -115,8 +106,7 @@ fn advance(state: &mut [u32], delivery: &mut [u32]) -> u32
 
 // A packet more waits at flow f.
 fn wait_more(state: &mut [u32], f: u32)
-    requires { ⌜ stateNumber (now state) ≡ 0 ⌝ }
-    requires { ⌜ f < countIn (now state) ⌝ }
+    requires { ⌜ StateFlow (now state) f ⌝ }
     ensures { λ _. ⌜ now (state .exit) ≡ over (stateWords (offerState (stateOf (now (state .entry))) f)) (now (state .entry)) ⌝ }
 {
     let t = cycle::tally_at(state, f);

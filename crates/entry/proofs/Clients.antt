@@ -14,7 +14,7 @@ use Rattle.router.specs.Rule.{ready, entrantBelow, entrant, isFlow}
 use Rattle.router.specs.Rule as Rule
 use Rattle.router.proofs.Entrant.{Found, no-entrant, has-entrant, found}
 use Rattle.state.specs.Read.{sxIn, syIn, countIn, planIn, stateOf}
-use Rattle.state.proofs.Forms.{StateFacts}
+use Rattle.state.specs.Facts.{StateFacts}
 use Rattle.state.proofs.View.{view-count}
 use Rattle.cycle.specs.Seen.{view, enters}
 use Rattle.cycle.proofs.Facts.{flow-ok}

@@ -19,7 +19,7 @@ use Rattle.state.specs.Layout.{flowPlace, numberSize, planSize}
 use Rattle.state.specs.State.{tallyAt, cellAt}
 use Rattle.state.specs.Words.{tallyWords}
 use Rattle.state.specs.Read.{countIn, flowIn, tallyIn, stateOf}
-use Rattle.state.proofs.Forms.{StateFacts}
+use Rattle.state.specs.Facts.{StateFacts}
 use Rattle.state.proofs.View.{view-count}
 use Rattle.state.proofs.Read.{flow-read, tally-read}
 use Rattle.state.proofs.Holds.{Holds, hold-same, tally-written}

@@ -11,13 +11,15 @@ use Rattle.laws.specs.Count.{one}
 use Rattle.laws.specs.Grid.{cellIndex}
 use Rattle.flow.specs.declared.Flow.{Flow}
 use Rattle.flow.specs.Offsets.{portOf}
+use Rattle.flow.specs.Limits.{lastClock}
 use Rattle.bucket.specs.Regulator.{afterCycle}
 use Rattle.router.specs.Rule.{isOpen, entrantBelow}
 use Rattle.state.specs.declared.Tally.{Tally}
 use Rattle.state.specs.Layout.{flowPlace, numberSize}
 use Rattle.state.specs.State.{State}
 use Rattle.state.specs.Words.{tallyWords}
-use Rattle.state.specs.Read.{stateOf}
+use Rattle.state.specs.Facts.{StateFacts}
+use Rattle.state.specs.Read.{countIn, clockIn, stateOf}
 use Rattle.cycle.specs.Seen.{seen, view}
 use Rattle.cycle.specs.Step.{nextTally}
 
@@ -35,6 +37,12 @@ pub record Entrants (s : State) (n : ℕ) (l : List ℕ) : Type 0 where
   pub room : s .plan .sx * s .plan .sy ≤ length l
   pub at : (x y : ℕ) → x < s .plan .sx → y < s .plan .sy
       → entrantIn (getD l (cellIndex (s .plan .sx) x y) 0) ≡ entrantBelow (s .plan) (view s) x y n
+
+-- a state whose clock isn't the last, with the entrants of all its clients
+pub record AllEntered (w l : List ℕ) : Type 0 where
+  pub facts : StateFacts w
+  pub clock-below : clockIn w < lastClock
+  pub all-entrants : Entrants (stateOf w) (countIn w) l
 
 -- a flow's tally after a cycle in which it entered or not
 unfoldable pub tallyAfter : Flow → Tally → (entered : Bool) → Tally

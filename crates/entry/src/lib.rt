@@ -12,10 +12,10 @@ ghost use Rattle.flow.specs.Plan.{mostSize, mostFlows};
 ghost use Rattle.flow.specs.Ranges.{FlowOk};
 ghost use Rattle.flow.specs.Limits.{lastClock};
 ghost use Rattle.router.specs.Rule.{ready, isFlow};
-ghost use Rattle.state.specs.Read.{sxIn, syIn, countIn, clockIn, stateOf};
-ghost use Rattle.state.proofs.Forms.{StateFacts};
+ghost use Rattle.state.specs.Read.{sxIn, syIn, countIn, stateOf};
+ghost use Rattle.state.specs.Facts.{StateFacts, StateFlow};
 ghost use Rattle.cycle.specs.Seen.{view};
-ghost use Rattle.entry.specs.Entrants.{portOpen, tallyAfter, entrantIn, Entrants, tallied};
+ghost use Rattle.entry.specs.Entrants.{portOpen, tallyAfter, entrantIn, Entrants, AllEntered, tallied};
 
 // The flow's port at its client's router is open.
 fn port_open(state: &[u32], flow: Flow) -> bool
@@ -40,8 +40,7 @@ fn port_open(state: &[u32], flow: Flow) -> bool
 
 // Flow f has a waiting packet, a token and an open port.
 fn ready(state: &[u32], f: u32) -> bool
-    requires { ⌜ StateFacts (now state) ⌝ }
-    requires { ⌜ f < countIn (now state) ⌝ }
+    requires { ⌜ StateFlow (now state) f ⌝ }
     ensures { λ r. ⌜ r ≡ ready ((stateOf (now (state .entry))) .plan) (view (stateOf (now (state .entry)))) f ⌝ }
 {
     let t = cycle::tally_at(state, f);
@@ -80,8 +79,7 @@ fn tally_after(flow: Flow, t: Tally, enters: bool) -> Tally
 
 // Flow f's turn: if it enters, with the entrants of the flows below it, it is its client's entrant.
 fn enter(state: &[u32], f: u32, entrants: &mut [u32])
-    requires { ⌜ StateFacts (now state) ⌝ }
-    requires { ⌜ f < countIn (now state) ⌝ }
+    requires { ⌜ StateFlow (now state) f ⌝ }
     requires { ⌜ Entrants (stateOf (now state)) f (now entrants) ⌝ }
     ensures { λ _. ⌜ Entrants (stateOf (now (state .entry))) (f + 1) (now (entrants .exit)) ⌝ }
 {
@@ -120,9 +118,7 @@ fn entered(entrants: &[u32], sx: u32, flow: Flow, f: u32) -> bool
 
 // Every flow's next tally, by the entrants of all clients.
 pub fn tally_flows(state: &mut [u32], entrants: &[u32])
-    requires { ⌜ StateFacts (now state) ⌝ }
-    requires { ⌜ clockIn (now state) < lastClock ⌝ }
-    requires { ⌜ Entrants (stateOf (now state)) (countIn (now state)) (now entrants) ⌝ }
+    requires { ⌜ AllEntered (now state) (now entrants) ⌝ }
     ensures { λ _. ⌜ now (state .exit) ≡ turns (countIn (now (state .entry))) (tallied (now (state .entry))) (now (state .entry)) ⌝ }
 {
     let sx = state[state::SX];

@@ -15,6 +15,11 @@ pub record FlowOk (sx sy : ℕ) (f : Flow) : Type 0 where
   pub burst-least : 1 ≤ f .burst
   pub burst-most : f .burst ≤ mostBurst
 
+-- a size of the torus lies in 01's range
+pub record SizeOk (s : ℕ) : Type 0 where
+  pub least : 1 ≤ s
+  pub most : s ≤ mostSize
+
 -- a plan's numbers lie in 01's ranges
 pub record PlanOk (p : Plan) : Type 0 where
   pub sx-least : 1 ≤ p .sx

@@ -9,28 +9,18 @@ use lib.Dec.{ltb, leb, eqb}
 use lib.ListN.{length}
 use Rattle.laws.proofs.Cases.{and-true, or-false, passed}
 use Rattle.flow.specs.Plan.{mostSize, mostFlows}
+use Rattle.flow.specs.Ranges.{SizeOk}
 use Rattle.plan.specs.declared.Trailer.{Trailer}
 use Rattle.plan.specs.Layout.{mostFile, trailerSize, recordSize, tagged, trailerOf}
 use Rattle.plan.specs.declared.Answer.the-variants.{Done}
+use Rattle.plan.specs.Inner.{Framed}
 use Rattle.plan.specs.Refusals.{sizeOk, headerNumber, trailerNumber, answerBy, recordsAnswer, planAnswer}
 use Rattle.plan.proofs.Refusals.{or-else-done, answer-done}
-
-pub record SizeOk (s : ℕ) : Type 0 where
-  pub least : 1 ≤ s
-  pub most : s ≤ mostSize
 
 pub size-ok : (s : ℕ) → sizeOk s ≡ true → SizeOk s
 size-ok s e =
     let parts = and-true (leb 1 s) (leb s mostSize) e in
     record { least = leb-true 1 s (parts .0); most = leb-true s mostSize (parts .1) }
-
--- a trailer that fits a file of the given length
-pub record Framed (t : Trailer) (len : ℕ) : Type 0 where
-  pub sx-ok : SizeOk (t .sx)
-  pub sy-ok : SizeOk (t .sy)
-  pub count-least : 1 ≤ t .count
-  pub count-most : t .count ≤ mostFlows
-  pub ends : t .start + recordSize * t .count ≡ len - trailerSize
 
 framed : (t : Trailer) (len : ℕ) → headerNumber t len ≡ 0 → Framed t len
 unfolding headerNumber

@@ -4,3 +4,4 @@ pub mod Layout
 pub mod Refusals
 pub mod Notes
 pub mod Written
+pub mod Inner

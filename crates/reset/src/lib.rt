@@ -13,7 +13,7 @@ ghost use Rattle.laws.specs.Count.{joinBelow};
 ghost use Rattle.flow.specs.Plan.{mostFlows};
 ghost use Rattle.plan.specs.Layout.{recordSize, trailerOf, planOf};
 ghost use Rattle.plan.specs.Refusals.{trailerNumber};
-ghost use Rattle.plan.proofs.Accepted.{Framed};
+ghost use Rattle.plan.specs.Inner.{Framed};
 ghost use Rattle.state.specs.Layout.{headerSize, flowSize, routerSize, flowPlace, stateSize};
 ghost use Rattle.state.specs.State.{emptyCell, resetState};
 ghost use Rattle.state.specs.Words.{cellWords, stateWords};

@@ -19,7 +19,7 @@ use Rattle.state.specs.declared.Register.{Register}
 use Rattle.state.specs.declared.Register.the-variants.{Empty, Packet}
 use Rattle.state.specs.State.{State}
 use Rattle.state.specs.Read.{sxIn, syIn, planIn, stateOf}
-use Rattle.state.proofs.Forms.{StateFacts}
+use Rattle.state.specs.Facts.{StateFacts}
 use Rattle.cycle.specs.Step.{carried, leaving, delivered, deliveries}
 use Rattle.cycle.proofs.Facts.{cells-most}
 use Rattle.routing.specs.Walk.{pushed, pushedRow, rowDelivers, ExitRoom}

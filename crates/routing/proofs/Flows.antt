@@ -15,7 +15,7 @@ use Rattle.state.specs.declared.Register.the-variants.{Empty, Packet}
 use Rattle.state.specs.State.{cellAt}
 use Rattle.state.specs.Inner.{flowOf}
 use Rattle.state.specs.Read.{countIn, stateOf}
-use Rattle.state.proofs.Forms.{StateFacts}
+use Rattle.state.specs.Facts.{StateFacts}
 use Rattle.state.proofs.View.{view-count}
 use Rattle.cycle.specs.Seen.{shown, view}
 use Rattle.cycle.specs.Step.{deflected}
@@ -61,16 +61,16 @@ module _ (w : List ℕ) (x y : ℕ) (here : AtRouter w x y) where
   client port = enteringBy (stateOf w) port (entrant ((stateOf w) .plan) (view (stateOf w)) x y)
 
   client-flow : (port : Port) → InPlan w (client port)
-  client-flow port = entering-flow w (here .facts) port (found ((stateOf w) .plan) (view (stateOf w)) x y)
+  client-flow port = entering-flow w (here .router .facts) port (found ((stateOf w) .plan) (view (stateOf w)) x y)
 
   west-in : InPlan w west
-  west-in = west-flow w (here .facts) x y (here .column) (here .row)
+  west-in = west-flow w (here .router .facts) x y (here .router .column) (here .router .row)
 
   north-in : InPlan w north
-  north-in = north-flow w (here .facts) x y (here .column) (here .row)
+  north-in = north-flow w (here .router .facts) x y (here .router .column) (here .router .row)
 
   few : (r : Register) → InPlan w r → flowOf r < mostFlows
-  few r sent = omega (arith, here .facts .header .count-most)
+  few r sent = omega (arith, here .router .facts .header .count-most)
 
   pub south-sent : flowOf (southward (stateOf w) x y) < countIn w
   unfolding southward
@@ -85,4 +85,4 @@ module _ (w : List ℕ) (x y : ℕ) (here : AtRouter w x y) where
 
   pub south-reaches : (exit : Bool) → flowOf (cond exit Empty (southward (stateOf w) x y)) < mostFlows
   south-reaches exit =
-      few (cond exit Empty (southward (stateOf w) x y)) (either w Empty (southward (stateOf w) x y) exit (here .facts .header .count-least) south-sent)
+      few (cond exit Empty (southward (stateOf w) x y)) (either w Empty (southward (stateOf w) x y) exit (here .router .facts .header .count-least) south-sent)

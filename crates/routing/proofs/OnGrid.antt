@@ -11,8 +11,8 @@ module _ (w : List ℕ) (g : Grid) (entrants : List ℕ) (walk : Walking w g ent
 
   pub on-grid : (x y : ℕ) → x < sxIn w → y < syIn w → OnGrid g x y
   on-grid x y h k =
-      let sizes = walk .facts .header in
+      let sizes = walk .entered .facts .header in
       rw (walk .grid) (record { sx-most = sizes .sx-ok .most; sy-most = sizes .sy-ok .most; column = h; row = k })
 
   pub at-router : (x y : ℕ) → x < sxIn w → y < syIn w → AtRouter w x y
-  at-router x y h k = record { facts = walk .facts; clock-below = walk .clock-below; column = h; row = k }
+  at-router x y h k = record { router = record { facts = walk .entered .facts; column = h; row = k }; clock-below = walk .entered .clock-below }

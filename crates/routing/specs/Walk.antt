@@ -20,9 +20,9 @@ use Rattle.state.specs.Layout.{registerSize, routerSize}
 use Rattle.state.specs.Inner.{mostRouters}
 use Rattle.state.specs.Words.{registerWords}
 use Rattle.state.specs.Read.{sxIn, syIn, countIn, clockIn, stateOf}
-use Rattle.state.proofs.Forms.{StateFacts}
+use Rattle.state.specs.Facts.{StateRouter}
 use Rattle.cycle.specs.Step.{carried, delivered}
-use Rattle.entry.specs.Entrants.{Entrants}
+use Rattle.entry.specs.Entrants.{AllEntered}
 use Rattle.routing.specs.declared.Grid.{Grid}
 
 -- the grid of a state's routers
@@ -75,17 +75,13 @@ rowDelivers w y = joinBelow (sxIn w) (λ x. delivered (stateOf w) x y)
 
 -- the state with words w has a router in column x and row y, and its clock isn't the last
 pub record AtRouter (w : List ℕ) (x y : ℕ) : Type 0 where
-  pub facts : StateFacts w
+  pub router : StateRouter w x y
   pub clock-below : clockIn w < lastClock
-  pub column : x < sxIn w
-  pub row : y < syIn w
 
 -- a walk over all its routers, with their grid and who enters at each
 pub record Walking (w : List ℕ) (g : Grid) (entrants : List ℕ) : Type 0 where
-  pub facts : StateFacts w
-  pub clock-below : clockIn w < lastClock
+  pub entered : AllEntered w entrants
   pub grid : g ≡ gridIn w
-  pub all-entrants : Entrants (stateOf w) (countIn w) entrants
 
 -- n more exits, after `count`, have their words in the delivery memory
 pub record ExitRoom (count n : ℕ) (delivery : List ℕ) : Type 0 where

@@ -14,11 +14,11 @@ ghost use Rattle.router.specs.Delivery.{wordsOf};
 ghost use Rattle.state.specs.declared.Register.the-variants.{Empty};
 ghost use Rattle.state.specs.Inner.{flowOf};
 ghost use Rattle.state.specs.Read.{sxIn, syIn, countIn, clockIn, stateOf};
-ghost use Rattle.state.proofs.Forms.{StateFacts};
+ghost use Rattle.state.specs.Facts.{StateFacts};
 ghost use Rattle.cycle.specs.Seen.{view};
 ghost use Rattle.cycle.specs.Sent.{isEmpty};
 ghost use Rattle.cycle.specs.Step.{leaving, delivered, deliveries};
-ghost use Rattle.entry.specs.Entrants.{entrantIn, Entrants};
+ghost use Rattle.entry.specs.Entrants.{entrantIn, Entrants, AllEntered};
 ghost use Rattle.routing.specs.Sent.{clientSends, sentAt, isIdle};
 ghost use Rattle.routing.specs.Walk.{OnGrid, registersOf, registersIn, push, pushed, pushedRow, pushedAll, rowDelivers, AtRouter, Walking, ExitRoom};
 
@@ -256,9 +256,7 @@ fn route_row(
 
 // All routers, by row then column.
 pub fn route_all(state: &[u32], entrants: &[u32], next: &mut [u32], delivery: &mut [u32]) -> u32
-    requires { ⌜ StateFacts (now state) ⌝ }
-    requires { ⌜ clockIn (now state) < lastClock ⌝ }
-    requires { ⌜ Entrants (stateOf (now state)) (countIn (now state)) (now entrants) ⌝ }
+    requires { ⌜ AllEntered (now state) (now entrants) ⌝ }
     requires { ⌜ registersIn (now state) ≤ length (now next) ⌝ }
     requires { ⌜ exitSize * (sxIn (now state) * syIn (now state)) ≤ length (now delivery) ⌝ }
     ensures { λ _. ⌜ now (next .exit) ≡ pushedAll (now (state .entry)) (now (next .entry)) ⌝ }

@@ -18,7 +18,8 @@ use Rattle.state.specs.Read.{sxIn, syIn, countIn, clockIn, flowIn, tally
 use Rattle.state.proofs.Words.{length-register, router-below}
 use Rattle.state.proofs.Holds.{HoldsState}
 use Rattle.state.proofs.View.{view-count, view-size, view-flow, view-tally, view-cell}
-use Rattle.state.proofs.Forms.{HeaderFacts, StateFacts, empty-facts}
+use Rattle.state.specs.Facts.{HeaderFacts, StateFacts}
+use Rattle.state.proofs.Forms.{empty-facts}
 
 module _ (w : List ℕ) where
   -- a flow's ten words are those of what is read from them

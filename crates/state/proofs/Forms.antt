@@ -1,9 +1,8 @@
--- What words that form a state have, as far as code asks for it: records for inner functions' promises, and where they
--- come from. Rests on specs/Forms.
+-- Where the facts of words that form a state come from. Rests on specs/Forms and specs/Facts.
 use mathlib.Core.Bool.{Bool, true, not, _&&_}
 use mathlib.Core.List.{List}
 use mathlib.Core.Path.{_≡_, sym, ap, _∙_}
-use Prim.Native.Nat.{ℕ, _+_, _-_, _≤_, _<_}
+use Prim.Native.Nat.{ℕ, _+_, _-_, _<_}
 use borrow.Author.Tests.{ltb-true, ltb-false, leb-true, eqb-true, not-false}
 use lib.Dec.{ltb, leb, eqb}
 use lib.ListN.{length, getD}
@@ -17,7 +16,7 @@ use Rattle.flow.specs.Ranges.{FlowOk}
 use Rattle.bucket.specs.Regulator.{bucketFits}
 use Rattle.bucket.proofs.Regulator.{fitting-count}
 use Rattle.plan.specs.Refusals.{sizeOk}
-use Rattle.plan.proofs.Accepted.{SizeOk, size-ok}
+use Rattle.plan.proofs.Accepted.{size-ok}
 use Rattle.place.specs.Place.{Place, W, N}
 use Rattle.flow.specs.Limits.{mostWaiting}
 use Rattle.place.specs.InPlace.{inPlace}
@@ -25,60 +24,13 @@ use Rattle.state.specs.declared.Register.the-variants.{Empty, Packet}
 use Rattle.state.specs.declared.Tally.{Tally}
 use Rattle.state.specs.Layout.{headerSize, zerosPlace, registerSize, flowPlace}
 use Rattle.state.specs.Read.{sxIn, syIn, countIn, clockIn, flowIn, tallyIn, registerIn, routerIn}
+use Rattle.state.specs.Facts.{HeaderFacts, TallyFacts, FlowFacts, StateFacts}
 use Rattle.state.specs.Forms.{headerFits, numbersFit, tallyFits, flowFits, contentsFit, registerFits, cellFits, restFits, sizeIn, stateNumber}
-
--- the first eight words
-pub record HeaderFacts (w : List ℕ) : Type 0 where
-  pub sx-ok : SizeOk (sxIn w)
-  pub sy-ok : SizeOk (syIn w)
-  pub count-least : 1 ≤ countIn w
-  pub count-most : countIn w ≤ mostFlows
-  pub zeros : (k : ℕ) → k < 4 → getD w (zerosPlace + k) 0 ≡ 0
-
--- a flow's count, waiting and entered
-pub record TallyFacts (clock : ℕ) (f : Flow) (t : Tally) : Type 0 where
-  pub count-below : t .bucket .count < f .period
-  pub waiting-most : t .waiting ≤ mostWaiting
-  pub entered-most : t .entered ≤ clock
-
--- a header that fits, and as many words as it asks for
-pub record Headed (w : List ℕ) : Type 0 where
-  pub header : HeaderFacts w
-  pub long : sizeIn w ≤ length w
-
--- of such words, flow f
-pub record FlowOf (w : List ℕ) (f : ℕ) : Type 0 where
-  pub headed : Headed w
-  pub below : f < countIn w
-
--- the words of flow f
-pub record FlowFacts (w : List ℕ) (f : ℕ) : Type 0 where
-  pub numbers : FlowOk (sxIn w) (syIn w) (flowIn w (flowPlace f))
-  pub tally : TallyFacts (clockIn w) (flowIn w (flowPlace f)) (tallyIn w (flowPlace f))
-
--- every flow of such words fits
-pub record FlowsFit (w : List ℕ) : Type 0 where
-  pub headed : Headed w
-  pub flow : (f : ℕ) → f < countIn w → FlowFacts w f
-
--- of such words, the router in column x and row y
-pub record RouterOf (w : List ℕ) (x y : ℕ) : Type 0 where
-  pub fit : FlowsFit w
-  pub column : x < sxIn w
-  pub row : y < syIn w
 
 -- a packet in a register
 pub record PacketFacts (w : List ℕ) (place : Place) (flow serial entry deflections : ℕ) : Type 0 where
   pub flow-below : flow < countIn w
   pub in-place : inPlace (sxIn w) (syIn w) (flowIn w (flowPlace flow)) place deflections (clockIn w - entry) ≡ true
-
--- all that later code asks of words that form a state
-pub record StateFacts (w : List ℕ) : Type 0 where
-  pub header : HeaderFacts w
-  pub long : sizeIn w ≤ length w
-  pub flow : (f : ℕ) → f < countIn w → FlowFacts w f
-  pub west : (x y : ℕ) → x < sxIn w → y < syIn w → registerFits w (W x y) (routerIn w x y) ≡ true
-  pub north : (x y : ℕ) → x < sxIn w → y < syIn w → registerFits w (N x y) (routerIn w x y + registerSize) ≡ true
 
 pub header-facts : (w : List ℕ) → headerFits w ≡ true → HeaderFacts w
 unfolding headerFits

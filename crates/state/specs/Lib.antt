@@ -8,3 +8,4 @@ pub mod Outcome
 pub mod Reset
 pub mod Writing
 pub mod Inner
+pub mod Facts

@@ -15,7 +15,7 @@ ghost use Rattle.flow.specs.Ranges.{FlowOk};
 ghost use Rattle.state.specs.Layout.{headerSize, flowSize, registerSize};
 ghost use Rattle.state.specs.Read.{sxIn, syIn, countIn, flowIn};
 ghost use Rattle.state.specs.Forms.{headerFits, numbersFit, tallyFits, flowFits, isPlaced, contentsFit, registerFits, cellFits, sizeIn, stateNumber};
-ghost use Rattle.state.proofs.Forms.{HeaderFacts, Headed, FlowOf, FlowsFit, RouterOf};
+ghost use Rattle.state.specs.Facts.{HeaderFacts, Headed, FlowOf, FlowsFit, RouterOf};
 
 // The most of a flow's period, and of its burst.
 const MOST_PERIOD: u32 = 65535;

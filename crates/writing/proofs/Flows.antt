@@ -22,7 +22,7 @@ use Rattle.state.specs.Layout.{flowPlace}
 use Rattle.state.specs.Read.{sxIn, syIn, countIn, flowIn, planIn}
 use Rattle.state.specs.Outcome.{outcome, over}
 use Rattle.state.specs.Writing.{bytesOn}
-use Rattle.state.proofs.Forms.{StateFacts}
+use Rattle.state.specs.Facts.{StateFacts}
 use Rattle.state.proofs.Over.{over-sets}
 use Rattle.state.proofs.View.{view-count}
 use Rattle.writing.specs.Parts.{recordsIn, trailerFrom, fileSize}

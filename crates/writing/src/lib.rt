@@ -14,7 +14,7 @@ ghost use Rattle.plan.specs.Written.{recordBytes, planBytes};
 ghost use Rattle.state.specs.Read.{countIn, planIn};
 ghost use Rattle.state.specs.Outcome.{outcome, over};
 ghost use Rattle.state.specs.Writing.{bytesOn, writeOn};
-ghost use Rattle.state.proofs.Forms.{StateFacts};
+ghost use Rattle.state.specs.Facts.{StateFacts};
 ghost use Rattle.writing.specs.Parts.{recordsIn, trailerFrom, fileSize};
 
 // The most bytes of a file in front of its trailer.

@@ -9,12 +9,12 @@ use Rattle.cycle.proofs.cell_at.Tie as tie
 cell-in-requires : tie.Need-cell-in-requires
 cell-in-requires c κs =
     let p = c .before .before .before .before .pre in
-    rw (c .router-place .ensures) (router-fits _ (p .0) _ _ (p .1 .0) (p .1 .1))
+    rw (c .router-place .ensures) (router-fits _ (p .facts) _ _ (p .column) (p .row))
 
 returns : tie.Need-returns
 returns c =
     let p = c .before .before .before .before .before .pre in
-    c .cell-in .ensures ∙ rw (c .before .router-place .ensures) (sym (view-cell _ _ _ (p .1 .0) (p .1 .1)))
+    c .cell-in .ensures ∙ rw (c .before .router-place .ensures) (sym (view-cell _ _ _ (p .column) (p .row)))
 
 pub cell-at-spec : {M : Type 1} → statement M
 cell-at-spec =

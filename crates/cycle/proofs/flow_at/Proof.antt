@@ -8,7 +8,7 @@ use Rattle.cycle.proofs.flow_at.Tie as tie
 
 returns : tie.Need-returns
 unfolding stateOf
-returns c = c .flow-in .ensures ∙ rw (c .before .flow-place .ensures) (sym (view-flow _ _ (c .before .before .before .pre .1)))
+returns c = c .flow-in .ensures ∙ rw (c .before .flow-place .ensures) (sym (view-flow _ _ (c .before .before .before .pre .below)))
 
 pub flow-at-spec : {M : Type 1} → statement M
 flow-at-spec = tie.close (tie.spec (λ c κs. search needs) (λ c κs. search needs) returns)

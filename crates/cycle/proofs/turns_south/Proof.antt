@@ -7,7 +7,7 @@ use Rattle.cycle.proofs.turns_south.Tie as tie
 flow-at-requires : tie.Need-flow-at-requires
 flow-at-requires c κs =
     let p = c .before .before .before .before .pre in
-    (p .0, rw (c .before .west .given .1) at (p .1))
+    record { facts = p .facts; below = rw (c .before .west .given .1) at (p .flow-below) }
 
 returns : tie.Need-returns
 unfolding turnsSouth

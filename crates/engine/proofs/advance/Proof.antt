@@ -6,7 +6,6 @@ use native.Mathlib.Omega.{arith}
 use lib.ListN.{replicate, getD-replicate, length-replicate}
 use Rattle.state.specs.Inner.{mostRouters}
 use Rattle.state.specs.Read.{sxIn, syIn, planIn, stateOf}
-use Rattle.state.proofs.Forms.{state-facts}
 use Rattle.entry.specs.Entrants.{Entrants}
 use Rattle.entry.proofs.Entrant.{entrants-none}
 use Rattle.cycle.proofs.Facts.{cells-most}
@@ -19,34 +18,34 @@ unfolding stateOf planIn
 none w n h = entrants-none (stateOf w) (replicate n 0) (rw length-replicate h) (λ i k. getD-replicate n i 0 0 (omega arith))
 
 slice-read-routers : tie.Need-slice-read-routers
-slice-read-routers c = let long = state-facts _ (c .before .before .before .pre .0) .long in omega arith
+slice-read-routers c = let long = c .before .before .before .pre .facts .long in omega arith
 
 slice-read-routers-2 : tie.Need-slice-read-routers-2
-slice-read-routers-2 c = let long = state-facts _ (c .before .before .before .before .pre .0) .long in omega arith
+slice-read-routers-2 c = let long = c .before .before .before .before .pre .facts .long in omega arith
 
 mul-routers : tie.Need-mul-routers
-mul-routers c = omega (arith, cells-most _ (state-facts _ (c .before .before .before .before .pre .0)))
+mul-routers c = omega (arith, cells-most _ (c .before .before .before .before .pre .facts))
 
 advance-in-requires : tie.Need-advance-in-requires
 advance-in-requires c κs =
     let test = c .before .before .before .before in
     let p = test .before .before .before .before .before .pre in
     let small = test .if1 .taken in
-    (state-facts _ (p .0), (record { goes-on = p .1 .0; registers-fit = omega arith; delivery-fits = p .1 .1 }, none _ 16 small))
+    record { stepping = p; registers-fit = omega arith; no-entrants = none _ 16 small }
 
 advance-in-requires-2 : tie.Need-advance-in-requires-2
 advance-in-requires-2 c κs =
     let test = c .before .before .before .before in
     let p = test .before .before .before .before .before .before .pre in
     let small = test .if2 .taken in
-    (state-facts _ (p .0), (record { goes-on = p .1 .0; registers-fit = omega arith; delivery-fits = p .1 .1 }, none _ 64 small))
+    record { stepping = p; registers-fit = omega arith; no-entrants = none _ 64 small }
 
 advance-in-requires-3 : tie.Need-advance-in-requires-3
 advance-in-requires-3 c κs =
     let test = c .before .before .before .before in
     let p = test .before .before .before .before .before .before .pre in
-    let most = cells-most _ (state-facts _ (p .0)) in
-    (state-facts _ (p .0), (record { goes-on = p .1 .0; registers-fit = omega arith; delivery-fits = p .1 .1 }, none _ mostRouters most))
+    let most = cells-most _ (p .facts) in
+    record { stepping = p; registers-fit = omega arith; no-entrants = none _ mostRouters most }
 
 pub advance-spec : {M : Type 1} → statement M
 advance-spec =

@@ -19,8 +19,9 @@ store-next-requires c κs =
     let lent = found .before .before .before .before .before in
     let p = lent .before .before .before .before .pre in
     let kept = found .find-next .kept .1 .1 .0 in
-    let fits = p .1 .0 .registers-fit in
-    (p .0, (p .1 .0 .goes-on, (found .find-next .ensures .0, omega arith)))
+    let fits = p .registers-fit in
+    let s = p .stepping in
+    (record { facts = s .facts; clock-below = s .clock-below; all-entrants = found .find-next .ensures .0 }, omega arith)
 
 returns : tie.Need-returns
 returns c =
@@ -30,12 +31,12 @@ returns c =
     let lent = found .before .before .before .before .before in
     let start = lent .before .before .before .before in
     let w = start .args .state .now in
-    let fed = start .pre .1 .0 in
+    let room = start .pre in
     let all = found .find-next .ensures in (
-      stored .store-next .ensures ∙ rw (all .1 .0) (next-over w (start .pre .0) _ (fed .registers-fit)),
+      stored .store-next .ensures ∙ rw (all .1 .0) (next-over w (room .stepping .facts) _ (room .registers-fit)),
       (
         all .1 .1 .0,
-        all .1 .1 .1 ∙ over-sets (wordsOf (deliveries (stateOf w))) (start .args .delivery .now) (le-trans (delivers-fit w) (fed .delivery-fits)),
+        all .1 .1 .1 ∙ over-sets (wordsOf (deliveries (stateOf w))) (start .args .delivery .now) (le-trans (delivers-fit w) (room .stepping .delivery-fits)),
       ),
     )
 

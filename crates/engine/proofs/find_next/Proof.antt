@@ -7,7 +7,10 @@ route-all-requires : tie.Need-route-all-requires
 route-all-requires c κs =
     let found = c .before .before .before .before .before in
     let p = found .before .before .before .before .before .before .pre in
-    (p .0, (p .1 .0 .goes-on, (found .find-entrants .ensures, (p .1 .0 .registers-fit, p .1 .0 .delivery-fits))))
+    let s = p .stepping in (
+      record { facts = s .facts; clock-below = s .clock-below; all-entrants = found .find-entrants .ensures },
+      (p .registers-fit, s .delivery-fits),
+    )
 
 pub find-next-spec : {M : Type 1} → statement M
 find-next-spec =

@@ -49,7 +49,11 @@ returns-2 c =
     rw (formed (c .before .before .before), ← (number (c .before))) (unless-refuses _ _ _ (c .if2 .taken) ∙ unless-passes _ _ _ refl)
 
 wait-more-requires : tie.Need-wait-more-requires
-wait-more-requires c κs = (formed (c .before .before .before .before), named _ _ _ (sym (number (c .before .before)) ∙ c .before .if2 .left))
+wait-more-requires c κs =
+    record {
+      facts = state-facts _ (formed (c .before .before .before .before));
+      below = named _ _ _ (sym (number (c .before .before)) ∙ c .before .if2 .left);
+    }
 
 returns-3 : tie.Need-returns-3
 unfolding offerOn

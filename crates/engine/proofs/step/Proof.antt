@@ -3,7 +3,7 @@ use mathlib.Core.Path.{_≡_, refl, sym, _∙_}
 use mathlib.Core.Bool.{cond}
 use mathlib.Core.List.{List}
 use mathlib.Core.Logic.{_≢_}
-use Prim.Native.Nat.{ℕ, _+_, _*_, _≤_, _<_}
+use Prim.Native.Nat.{ℕ, _+_, _*_, _<_}
 use borrow.Author.Needs.{needs}
 use borrow.Author.Tests.{ltb-false, eqb-false}
 use native.Mathlib.Omega.{arith}
@@ -16,17 +16,18 @@ use Rattle.state.specs.Forms.{stateNumber}
 use Rattle.state.proofs.Forms.{state-facts}
 use Rattle.state.proofs.Over.{unless-passes, unless-refuses}
 use Rattle.cycle.specs.Step.{stepOn}
+use Rattle.engine.specs.Next.{Stepping}
 use Rattle.engine.proofs.step.Statement.{statement}
 use Rattle.engine.proofs.step.Tie as tie
 
 -- what 10 and 11 leave: room for every router's exit, and a clock that can go on
 room : (w delivery : List ℕ) → stepNumber ((stateOf w) .plan) (length delivery) ((stateOf w) .clock) ≡ 0 → clockIn w < lastClock + 1
-    → (clockIn w < lastClock) × (exitSize * (sxIn w * syIn w) ≤ length delivery)
+    → stateNumber w ≡ 0 → Stepping w delivery
 unfolding stepNumber stateOf planIn
-room w delivery e fits =
+room w delivery e fits formed =
     let first = passed (ltb (length delivery) (exitSize * (sxIn w * syIn w))) 9 (cond (eqb (clockIn w) lastClock) 11 0) e in
     let other : clockIn w ≢ lastClock = eqb-false (clockIn w) lastClock (passed (eqb (clockIn w) lastClock) 10 0 (first .1) .0) in
-    (omega arith, ltb-false _ _ (first .0))
+    record { facts = state-facts w formed; clock-below = omega arith; delivery-fits = ltb-false _ _ (first .0) }
 
 returns : tie.Need-returns
 unfolding stepOn
@@ -52,16 +53,15 @@ returns-2 c =
 
 -- the step can run
 free : (c : tie.Else2) → let first = c .before .before .before .before in
-    let a = first .before .before .before .before .before .args in
-    (clockIn (a .state .now) < lastClock) × (exitSize * (sxIn (a .state .now) * syIn (a .state .now)) ≤ length (a .delivery .now))
+    let a = first .before .before .before .before .before .args in Stepping (a .state .now) (a .delivery .now)
 free c =
     let first = c .before .before .before .before in
     let known = first .before .before .before .before in
     let a = known .before .args in
-    room (a .state .now) (a .delivery .now) (sym (number (c .before)) ∙ c .if2 .left) (known .slice-known .given 3 .fits)
+    room (a .state .now) (a .delivery .now) (sym (number (c .before)) ∙ c .if2 .left) (known .slice-known .given 3 .fits) (formed first)
 
 advance-requires : tie.Need-advance-requires
-advance-requires c κs = (formed (c .before .before .before .before .before .before), free (c .before .before))
+advance-requires c κs = free (c .before .before)
 
 returns-3 : tie.Need-returns-3
 unfolding stepOn

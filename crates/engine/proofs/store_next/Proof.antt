@@ -8,7 +8,7 @@ use Rattle.engine.proofs.store_next.Statement.{statement}
 use Rattle.engine.proofs.store_next.Tie as tie
 
 mul-routers : tie.Need-mul-routers
-mul-routers c = omega (arith, cells-most _ (c .before .before .before .before .before .pre .0))
+mul-routers c = omega (arith, cells-most _ (c .before .before .before .before .before .pre .0 .facts))
 
 returns : tie.Need-returns
 unfolding nextWords

@@ -2,31 +2,30 @@
 use mathlib.Core.Path.{_∙_}
 use borrow.Author.Needs.{needs}
 use native.Mathlib.Omega.{arith}
-use Rattle.state.proofs.Forms.{state-facts}
 use Rattle.cycle.proofs.Facts.{tally-ok}
 use Rattle.engine.proofs.Next.{offered-over}
 use Rattle.engine.proofs.wait_more.Statement.{statement}
 use Rattle.engine.proofs.wait_more.Tie as tie
 
 tally-at-requires : tie.Need-tally-at-requires
-tally-at-requires c κs = let p = c .before .before .pre in (state-facts _ (p .0), p .1)
+tally-at-requires c κs = c .before .before .pre
 
 add-t8 : tie.Need-add-t8
 add-t8 c =
     let start = c .before .before .before .before .before in
-    let ok = tally-ok _ (state-facts _ (start .pre .0)) (start .args .f) (start .pre .1) in
+    let ok = tally-ok _ (start .pre .facts) (start .args .f) (start .pre .below) in
     rw (c .before .before .tally-at .ensures) (omega arith)
 
 flow-place-requires : tie.Need-flow-place-requires
 flow-place-requires c κs =
     let start = c .before .before .before .before .before .before in
-    omega (arith, state-facts _ (start .pre .0) .header .count-most, start .pre .1)
+    omega (arith, start .pre .facts .header .count-most, start .pre .below)
 
 put-tally-requires : tie.Need-put-tally-requires
 put-tally-requires c κs =
     let tally = c .before .before .before .before in
     let start = tally .before .before .before in
-    rw (c .flow-place .ensures) (omega (arith, state-facts _ (start .pre .0) .long, start .pre .1))
+    rw (c .flow-place .ensures) (omega (arith, start .pre .facts .long, start .pre .below))
 
 returns : tie.Need-returns
 returns c =
@@ -34,7 +33,7 @@ returns c =
     let tally = put .before .before .before .before .before in
     let start = tally .before .before .before in
     put .put-tally .ensures
-    ∙ offered-over _ (state-facts _ (start .pre .0)) (start .args .f) (start .pre .1) _ _ (put .before .flow-place .ensures) (rw (tally .tally-at .ensures))
+    ∙ offered-over _ (start .pre .facts) (start .args .f) (start .pre .below) _ _ (put .before .flow-place .ensures) (rw (tally .tally-at .ensures))
 
 pub wait-more-spec : {M : Type 1} → statement M
 wait-more-spec = tie.close (tie.spec tally-at-requires add-t8 flow-place-requires put-tally-requires (λ c. search needs) returns)

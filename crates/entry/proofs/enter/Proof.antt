@@ -19,7 +19,7 @@ abbrev start : tie.After-ready → tie.Start
 start c = c .before .before .before
 
 returns : tie.Need-returns
-returns c = entrants-unready _ _ _ (told-not (c .before .ready .ensures) (c .if1 .taken)) (start (c .before) .pre .1 .1)
+returns c = entrants-unready _ _ _ (told-not (c .before .ready .ensures) (c .if1 .taken)) (start (c .before) .pre .1)
 
 -- the flow is ready
 is-ready : (c : tie.Else1) → let a = start (c .before) .args in let s = stateOf (a .state .now) in ready (s .plan) (view s) (a .f) ≡ true
@@ -28,8 +28,8 @@ is-ready c = told-not′ (c .before .ready .ensures) (c .if1 .left)
 router-index-requires : tie.Need-router-index-requires
 router-index-requires c κs =
     let begin = start (c .before .before .before) in
-    let ok = flow-ok _ (begin .pre .0) (begin .args .f) (begin .pre .1 .0) in
-    let sizes = begin .pre .0 .header in
+    let ok = flow-ok _ (begin .pre .0 .facts) (begin .args .f) (begin .pre .0 .below) in
+    let sizes = begin .pre .0 .facts .header in
     rw (c .before .flow-at .ensures) (omega arith)
 
 -- its client has a place among the entrants
@@ -39,7 +39,7 @@ begin c = start (c .before .before .before .before)
 fits : (c : tie.After-router-index) → c .router-index .result < length (begin c .args .entrants .now)
 fits c =
     let p = begin c .pre in
-    client-fits _ (p .0) _ (p .1 .0) _ (p .1 .1) _ (c .before .before .flow-at .ensures) _ (c .router-index .ensures .0)
+    client-fits _ (p .0 .facts) _ (p .0 .below) _ (p .1) _ (c .before .before .flow-at .ensures) _ (c .router-index .ensures .0)
 
 slice-read-if2 : tie.Need-slice-read-if2
 slice-read-if2 c = fits (c .before)
@@ -48,7 +48,7 @@ returns-2 : tie.Need-returns-2
 returns-2 c =
     let at = c .before .before in
     let p = begin at .pre in
-    client-taken _ (p .0) _ (p .1 .0) _ (p .1 .1) _ (at .before .before .flow-at .ensures) _ (at .router-index .ensures .0) (c .if2 .taken)
+    client-taken _ (p .0 .facts) _ (p .0 .below) _ (p .1) _ (at .before .before .flow-at .ensures) _ (at .router-index .ensures .0) (c .if2 .taken)
 
 slice-write-entrants : tie.Need-slice-write-entrants
 slice-write-entrants c = fits (c .before .before)
@@ -57,7 +57,7 @@ returns-3 : tie.Need-returns-3
 returns-3 c =
     let at = c .before .before in
     let p = begin at .pre in
-    client-marked _ (p .0) _ (p .1 .0) _ (p .1 .1) _ (at .before .before .flow-at .ensures) _ (at .router-index .ensures .0)
+    client-marked _ (p .0 .facts) _ (p .0 .below) _ (p .1) _ (at .before .before .flow-at .ensures) _ (at .router-index .ensures .0)
     (c .if2 .left) (is-ready (at .before .before .before))
 
 pub enter-spec : {M : Type 1} → statement M

@@ -21,7 +21,7 @@ loop-holds c = (omega arith, (refl, c .before .before .before .pre .1))
 enter-requires : tie.Need-enter-requires Inv-loop μ-loop
 enter-requires c κs =
     let p = c .before .before .before .before .before .before .pre in
-    (p .0, (omega arith, c .before .before .loop .inv .1 .1))
+    (record { facts = p .0; below = omega arith }, c .before .before .loop .inv .1 .1)
 
 loop-again : tie.Need-loop-again Inv-loop μ-loop
 loop-again c =

@@ -53,7 +53,7 @@ turns-south-requires : tie.Need-turns-south-requires
 turns-south-requires c κs =
     let cell = c .before .before .before .before .before .before in
     let p = cell .before .before .pre in
-    (p .0, rw (cell .cell-at .ensures) (west-flow _ (p .0) _ _ (p .1 .xs-on) (p .1 .ys-on)))
+    record { facts = p .0; flow-below = rw (cell .cell-at .ensures) (west-flow _ (p .0) _ _ (p .1 .xs-on) (p .1 .ys-on)) }
 
 returns-2 : tie.Need-returns-2
 returns-2 c = c .is-empty .ensures ∙ sym (east (c .before))

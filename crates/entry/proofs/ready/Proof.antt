@@ -47,7 +47,7 @@ returns-2 c =
 port-open-requires : tie.Need-port-open-requires
 port-open-requires c κs =
     let p = start (c .before .before .before .before) .pre in
-    (p .0, rw (c .flow-at .ensures) (flow-ok _ (p .0) _ (p .1)))
+    (p .facts, rw (c .flow-at .ensures) (flow-ok _ (p .facts) _ (p .below)))
 
 returns-3 : tie.Need-returns-3
 unfolding ready portOpen

@@ -10,7 +10,7 @@ use Rattle.laws.proofs.Turns.{turns-none}
 use Rattle.flow.specs.Plan.{flowAt}
 use Rattle.state.specs.State.{tallyAt}
 use Rattle.state.specs.Read.{countIn, stateOf}
-use Rattle.state.proofs.Forms.{StateFacts}
+use Rattle.state.specs.Facts.{StateFacts}
 use Rattle.cycle.specs.Seen.{enters}
 use Rattle.cycle.specs.Step.{nextTally}
 use Rattle.cycle.proofs.Facts.{flow-ok, tally-ok}
@@ -38,14 +38,14 @@ abbrev number : Placed → ℕ
 number c = c .before .before .loop .f
 
 facts : (c : Placed) → StateFacts (words c)
-facts c = let turn = c .before .before in turn .before .before .before .before .before .pre .0
+facts c = let turn = c .before .before in turn .before .before .before .before .before .pre .facts
 
 below : (c : Placed) → number c < countIn (words c)
 below c = c .before .loop-test .taken
 
 room : (c : Placed) → let turn = c .before .before in
     Entrants (stateOf (words c)) (countIn (words c)) (turn .before .before .before .before .before .args .entrants .now)
-room c = let turn = c .before .before in turn .before .before .before .before .before .pre .1 .1
+room c = let turn = c .before .before in turn .before .before .before .before .before .pre .all-entrants
 
 flow-in-requires : tie.Need-flow-in-requires Inv-loop μ-loop
 flow-in-requires c κs =
@@ -87,7 +87,7 @@ tally-after-requires c κs =
     let p = e .before .before .before .before .before in
     let ok = tally-ok _ (facts p) _ (below p) in
     let turn = p .before .before in
-    let clock = turn .before .before .before .before .before .pre .1 .0 in
+    let clock = turn .before .before .before .before .before .pre .clock-below in
     rw (flow (e .before .before .before), tally (e .before)) (omega arith, λ yes′. enters-has _ _ (sym (enter e) ∙ yes′))
 
 put-tally-requires : tie.Need-put-tally-requires Inv-loop μ-loop

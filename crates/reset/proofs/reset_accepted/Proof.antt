@@ -4,7 +4,8 @@ use borrow.Author.Needs.{needs}
 use borrow.Author.Tests.{lt-ltb, le-ltb}
 use lib.ListN.{length}
 use Rattle.plan.specs.Layout.{planOf}
-use Rattle.plan.proofs.Accepted.{Framed, trailed}
+use Rattle.plan.specs.Inner.{Framed}
+use Rattle.plan.proofs.Accepted.{trailed}
 use Rattle.state.specs.Layout.{planSize}
 use Rattle.reset.proofs.Fresh.{size-is}
 use Rattle.reset.proofs.reset_accepted.Statement.{statement}

@@ -30,7 +30,7 @@ nobody (suc f) = sym (ne-eqb (suc f) 0 (λ e. omega arith))
 router-index-requires : tie.Need-router-index-requires
 router-index-requires c κs =
     let p = c .before .before .pre in
-    let sizes = p .0 .facts .header in
+    let sizes = p .0 .entered .facts .header in
     rw (p .0 .grid) (omega arith)
 
 -- the router's place among all
@@ -41,14 +41,14 @@ index c = c .router-index .ensures .0 ∙ rw (c .before .before .before .pre .0 
 shared-slice-read-if1 : tie.Need-shared-slice-read-if1
 shared-slice-read-if1 c =
     let p = c .before .before .before .before .pre in
-    rw (index (c .before)) (entrant-fits _ (p .0 .facts) _ _ (p .0 .all-entrants) _ _ (p .1 .0) (p .1 .1))
+    rw (index (c .before)) (entrant-fits _ (p .0 .entered .facts) _ _ (p .0 .entered .all-entrants) _ _ (p .1 .0) (p .1 .1))
 
 -- whether nobody enters there
 found : (c : tie.After-router-index) → let a = c .before .before .before .args in let s = stateOf (a .state .now) in
     isNone (entrant (s .plan) (view s) (a .x) (a .y)) ≡ eqb (getD (a .entrants .now) (c .router-index .result) 0) 0
 found c =
     let p = c .before .before .before .pre in
-    rw (index c) (ap isNone (sym (entrant-all _ (p .0 .facts) _ (p .0 .all-entrants) _ _ (p .1 .0) (p .1 .1))) ∙ nobody _)
+    rw (index c) (ap isNone (sym (entrant-all _ (p .0 .entered .facts) _ (p .0 .entered .all-entrants) _ _ (p .1 .0) (p .1 .1))) ∙ nobody _)
 
 -- where its registers stand
 place : (c : tie.After-router-place) → let a = c .before .before .before .before .before .before .args in
@@ -58,13 +58,13 @@ place c = c .router-place .ensures ∙ rw (c .before .before .before .before .be
 router-place-requires : tie.Need-router-place-requires
 router-place-requires c κs =
     let p = c .before .before .before .before .before .pre in
-    let sizes = p .0 .facts .header in
+    let sizes = p .0 .entered .facts .header in
     rw (p .0 .grid) (omega arith)
 
 cell-in-requires : tie.Need-cell-in-requires
 cell-in-requires c κs =
     let p = c .before .before .before .before .before .before .pre in
-    rw (place c) (router-fits _ (p .0 .facts) _ _ (p .1 .0) (p .1 .1))
+    rw (place c) (router-fits _ (p .0 .entered .facts) _ _ (p .1 .0) (p .1 .1))
 
 -- its registers
 cell : (c : tie.After-cell-in) → let at = c .before .before .before .before in let a = at .before .before .before .args in

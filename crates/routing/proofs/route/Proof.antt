@@ -18,7 +18,7 @@ use Rattle.routing.proofs.route.Tie as tie
 sent-at-requires : tie.Need-sent-at-requires
 sent-at-requires c κs =
     let p = c .before .before .before .before .pre in
-    (at-router _ _ _ (p .0) _ _ (p .1 .0 .0) (p .1 .0 .1), p .0 .all-entrants)
+    (at-router _ _ _ (p .0) _ _ (p .1 .0 .0) (p .1 .0 .1), p .0 .entered .all-entrants)
 
 -- the router is the state's, and on the grid
 here : (c : tie.After-sent-at) → let a = c .before .before .before .before .before .args in AtRouter (a .state .now) (a .x) (a .y)
@@ -28,7 +28,7 @@ on : (c : tie.After-sent-at) → let a = c .before .before .before .before .befo
 on c = let p = c .before .before .before .before .before .pre in on-grid _ _ _ (p .0) _ _ (p .1 .0 .0) (p .1 .0 .1)
 
 exits-requires : tie.Need-exits-requires
-exits-requires c κs = (here c .facts, rw (c .sent-at .ensures) (south-sent _ _ _ (here c)))
+exits-requires c κs = record { facts = here c .router .facts; flow-below = rw (c .sent-at .ensures) (south-sent _ _ _ (here c)) }
 
 push-east-requires : tie.Need-push-east-requires
 push-east-requires c κs =

@@ -26,8 +26,8 @@ route-row-requires c κs =
     let p = at .before .before .before .before .pre in
     let walked = turn .before .loop .inv .1 in
     let below = turn .loop-test .taken in (
-      record { facts = p .0; clock-below = p .1 .0; grid = refl; all-entrants = p .1 .1 .0 },
-      (below, (omega (arith, p .1 .1 .1 .0, walked .next-long), all-room _ (p .0) _ _ _ _ _ _ walked (p .1 .1 .1 .1) below)),
+      record { entered = p .0; grid = refl },
+      (below, (omega (arith, p .1 .0, walked .next-long), all-room _ (p .0 .facts) _ _ _ _ _ _ walked (p .1 .1) below)),
     )
 
 loop-again : tie.Need-loop-again Inv-loop μ-loop

@@ -7,7 +7,7 @@ use Rattle.routing.proofs.sent_at.Tie as tie
 
 router-index-requires : tie.Need-router-index-requires
 router-index-requires c κs =
-    let p = c .before .before .before .pre .0 in
+    let p = c .before .before .before .pre .0 .router in
     let sizes = p .facts .header in
     let row = p .row in
     (sizes .sx-ok .most, (p .column, omega arith))
@@ -15,12 +15,12 @@ router-index-requires c κs =
 shared-slice-read-router-sends : tie.Need-shared-slice-read-router-sends
 shared-slice-read-router-sends c =
     let p = c .before .before .before .before .before .pre in
-    rw (c .before .router-index .ensures .0) (entrant-fits _ (p .0 .facts) _ _ (p .1) _ _ (p .0 .column) (p .0 .row))
+    rw (c .before .router-index .ensures .0) (entrant-fits _ (p .0 .router .facts) _ _ (p .1) _ _ (p .0 .router .column) (p .0 .router .row))
 
 router-sends-requires : tie.Need-router-sends-requires
 router-sends-requires c κs =
     let p = c .before .before .before .before .before .pre in
-    (p .0, rw (c .before .router-index .ensures .0) (entrant-all _ (p .0 .facts) _ (p .1) _ _ (p .0 .column) (p .0 .row)))
+    (p .0, rw (c .before .router-index .ensures .0) (entrant-all _ (p .0 .router .facts) _ (p .1) _ _ (p .0 .router .column) (p .0 .router .row)))
 
 pub sent-at-spec : {M : Type 1} → statement M
 sent-at-spec =

@@ -5,7 +5,8 @@ use mathlib.Core.Path.{_≡_}
 use Prim.Native.Nat.{ℕ}
 use Rattle.laws.proofs.Bounded.{all-at}
 use Rattle.state.specs.Forms.{headerFits, flowFits, restFits, stateNumber}
-use Rattle.state.proofs.Forms.{Headed, header-facts, flow-facts}
+use Rattle.state.specs.Facts.{Headed}
+use Rattle.state.proofs.Forms.{header-facts, flow-facts}
 use borrow.Author.Tests.{lt-ltb, le-ltb}
 use Rattle.laws.proofs.Cases.{told-not, told-not′}
 use borrow.Author.Needs.{needs}
