@@ -1,6 +1,6 @@
 -- The cases of the table hold of the definitions.
-use mathlib.Core.List.{[]}
-use mathlib.Core.Path.{_≡_, refl, ap, _∙_}
+use mathlib.Core.List.{List, [], _∷_, List·Memᴰ as Mem, List·Memᴰ·head as here, List·Memᴰ·tail as there}
+use mathlib.Core.Path.{_≡_, refl, sym, ap, subst, _∙_}
 use Prim.Native.Nat.{_+_, _-_}
 use native.Mathlib.Nat.{div-one}
 use native.Mathlib.Omega.{arith}
@@ -28,7 +28,7 @@ use Rattle.router.specs.Links as Links
 use Rattle.router.specs.Rule as Rule
 use Rattle.book.specs.Cycle.{holds, sent, lowest, deliveries}
 use Rattle.book.specs.Feed.{refusal, feed}
-use Rattle.book.specs.Cases.{starred, across, along, AllHold}
+use Rattle.book.specs.Cases.{Case, Says, starred, across, along}
 
 -- a rival in every cycle: I(t) is t
 filled : windowOf (across 1 1) 0 ≡ Nothing
@@ -47,12 +47,21 @@ unfolding Bounded.allBelow Bounded.tabulate Bytes.littleEndian2 Bytes.littleEndi
     Written.planBytes Bounds.asked Bounds.windowAnswer
 reads = (refl, (refl, (refl, refl)))
 
-pub starred-hold : AllHold starred
+-- every row of a table holds
+abbrev AllHold : List Case → Type 0
+AllHold [] = Unit
+AllHold (c ∷ cs) = Says c × AllHold cs
+
+each : (cs : List Case) → AllHold cs → (c : Case) → Mem c cs → Says c
+each (d ∷ cs) all c (here e) = subst Says (sym e) (all .0)
+each (d ∷ cs) all c (there m) = each cs (all .1) c m
+
+rows : AllHold starred
 unfolding Bounded.tabulate Bounded.firstBelow Bounded.sumBelow Axis.offset Axis.next Regulator.afterCount Regulator.afterCycle Links.reach
     Curve.curve Conflict.conflict Conflict.conflictEast Conflict.conflictSouth Window.share Window.shareOf Window.interference
     Window.leastFrom Window.windowOf Rule.turnsSouth Rule.isOpen Rule.ready Rule.enters holds sent lowest deliveries refusal feed
     Limits.offerNumber Limits.stepNumber
-starred-hold = (refl, ((refl, refl), ((refl, refl), (refl, ((refl, refl), ((refl, refl), ((refl, refl), windows)))))))
+rows = (refl, ((refl, refl), ((refl, refl), (refl, ((refl, refl), ((refl, refl), ((refl, refl), windows)))))))
   where
     later : AllHold (drop 12 starred)
     later = (refl, (refl, (refl, ((refl, refl), tt))))
@@ -62,3 +71,6 @@ starred-hold = (refl, ((refl, refl), ((refl, refl), (refl, ((refl, refl), ((refl
 
     windows : AllHold (drop 7 starred)
     windows = (reads .0, (reads .1 .0, (refused, (refl, (reads .1 .1 .1, later)))))
+
+pub starred-hold : (c : Case) → Mem c starred → Says c
+starred-hold = each starred rows

@@ -1,14 +1,14 @@
 -- The promises of the packet book, for every accepted plan and every list of calls from its start. Rests on Kept and State.
 use mathlib.Core.Bool.{Bool, true, false, _&&_}
 use mathlib.Core.List.{List, List·Memᴰ as Mem}
-use mathlib.Core.Path.{_≡_, refl}
+use mathlib.Core.Path.{_≡_, refl, ap}
 use Prim.Native.Nat.{ℕ, suc, _+_, _-_, _≤_, _<_}
 use native.Mathlib.Omega.{arith}
-use borrow.Author.Tests.{eq-eqb}
+use borrow.Author.Tests.{eq-eqb, eqb-true}
 use lib.Dec.{eqb}
 use lib.ListN.{length}
 use Rattle.laws.specs.Count.{count}
-use Rattle.laws.proofs.Cases.{and-true}
+use Rattle.laws.proofs.Cases.{and-true, eqb-both, both-eqb}
 use Rattle.laws.proofs.Count.{mem-count, count-find, count-mono}
 use Rattle.flow.specs.Plan.{Plan, flowAt}
 use Rattle.flow.specs.Ranges.{PlanOk}
@@ -20,7 +20,7 @@ use Rattle.book.specs.Line.{Stage, waiting, placed, left, Line, isWaitin
 use Rattle.book.specs.Book.{Book, ofFlow}
 use Rattle.book.specs.Cycle.{deliveryOf}
 use Rattle.book.specs.Feed.{Call, run}
-use Rattle.book.specs.Promises.{deadline, EntersBy, sameWords, delivers, Promises}
+use Rattle.book.specs.Promises.{deadline, EntersBy, sameWords, Promises}
 use Rattle.book.proofs.Queue.{Queued, serial-range, serial-once}
 use Rattle.book.proofs.Traced.{line-ok}
 use Rattle.book.proofs.Spans.{Lawful}
@@ -62,12 +62,32 @@ module _ (p : Plan) (b : Book) (k : Kept p b) where
 
   -- what has left was delivered, and the other way round, whatever is asked of a delivery
   module _ (ds : List Delivery) (told : (r : Delivery → Bool) → count (gone r) (b .lines) ≡ count r ds) where
+    -- a delivery's five words are this line's
+    abbrev delivers : Line → Delivery → Bool
+    delivers l d = sameWords d (deliveryOf l)
+
     same-refl : (d : Delivery) → sameWords d d ≡ true
     same-refl d =
         rw (own (d .flow), own (d .serial), own (d .entry), own (d .exit), own (d .D))
       where
         own : (n : ℕ) → eqb n n ≡ true
         own n = eq-eqb n n refl
+
+    same-is : (d e : Delivery) → sameWords d e ≡ true → d ≡ e
+    same-is d e t =
+        let first = eqb (d .flow) (e .flow) && eqb (d .serial) (e .serial) in
+        let D = and-true (first && eqb (d .entry) (e .entry) && eqb (d .exit) (e .exit)) (eqb (d .D) (e .D)) t in
+        let exit = and-true (first && eqb (d .entry) (e .entry)) (eqb (d .exit) (e .exit)) (D .0) in
+        let entry = and-true first (eqb (d .entry) (e .entry)) (exit .0) in
+        let number = eqb-both (d .flow) (e .flow) (d .serial) (e .serial) (entry .0) in
+        λ i.
+        record {
+          flow = number .0 i;
+          serial = number .1 i;
+          entry = eqb-true (d .entry) (e .entry) (entry .1) i;
+          exit = eqb-true (d .exit) (e .exit) (exit .1) i;
+          D = eqb-true (d .D) (e .D) (D .1) i;
+        }
 
     once : (l : Line) → Mem l (b .lines) → isLeft (l .stage) ≡ true → count (delivers l) ds ≡ 1
     once l m has-exit =
@@ -83,22 +103,17 @@ module _ (p : Plan) (b : Book) (k : Kept p b) where
         own : Line → Bool
         own h = ofFlow (l .flow) h && eqb (h .serial) (l .serial)
 
-        two : (s t u v w : Bool) → s && t && u && v && w ≡ true → s && t ≡ true
-        two s t u v w e = and-true (s && t) u (and-true (s && t && u) v (and-true (s && t && u && v) w e .0) .0) .0
-
         same : (h : Line) → gone (delivers l) h ≡ true → own h ≡ true
         same h t =
-            let d : Delivery = deliveryOf h in
-            let e : Delivery = deliveryOf l in
-            two (eqb (d .flow) (e .flow)) (eqb (d .serial) (e .serial)) (eqb (d .entry) (e .entry)) (eqb (d .exit) (e .exit)) (eqb (d .D) (e .D))
-            (and-true (isLeft (h .stage)) (delivers l (deliveryOf h)) t .1)
+            let e = same-is (deliveryOf h) (deliveryOf l) (and-true (isLeft (h .stage)) (delivers l (deliveryOf h)) t .1) in
+            both-eqb (h .flow) (l .flow) (h .serial) (l .serial) (ap (λ (d : Delivery). d .flow) e) (ap (λ (d : Delivery). d .serial) e)
 
-    only : (d : Delivery) → Mem d ds → (l : Line) × Mem l (b .lines) × (isLeft (l .stage) ≡ true) × (delivers l d ≡ true)
+    only : (d : Delivery) → Mem d ds → (l : Line) × Mem l (b .lines) × (isLeft (l .stage) ≡ true) × (d ≡ deliveryOf l)
     only d m =
         let some : 1 ≤ count (gone (sameWords d)) (b .lines) = rw (told (sameWords d)) (mem-count (sameWords d) ds m (same-refl d)) in
         let l = count-find (gone (sameWords d)) (b .lines) some in
         let h = and-true _ _ (l .2) in
-        (l .0, l .1, h .0, h .1)
+        (l .0, l .1, h .0, same-is d (deliveryOf (l .0)) (h .1))
 
     kept-promises : Promises p b ds
     kept-promises =

@@ -5,7 +5,7 @@ use mathlib.Core.Path.{_≡_}
 use Prim.Native.Nat.{ℕ, zero, suc}
 use Rattle.flow.specs.declared.Flow.{Flow}
 use Rattle.flow.specs.Offsets.{ΔX, ΔY}
-use Rattle.flow.specs.Plan.{Plan, flowAt}
+use Rattle.flow.specs.Plan.{Plan, flow, flowAt}
 use Rattle.plan.specs.declared.Answer.{Answer}
 use Rattle.plan.specs.declared.Answer.the-variants.{Done, Refused}
 use Rattle.plan.specs.Written.{planBytes}
@@ -14,12 +14,8 @@ use Rattle.window.specs.Conflict.{conflict}
 use Rattle.window.specs.Flight.{flight, flightBound}
 use Rattle.bounds.specs.Bounds.{windowAnswer}
 use Rattle.book.specs.Book.{bucketAt}
-use Rattle.router.specs.Delivery.{Delivery}
+use Rattle.router.specs.Delivery.{Delivery, delivery}
 use Rattle.book.specs.Feed.{Call, offer, step, run}
-
--- a flow from (xs,ys) to (xd,yd) with period P and burst σ
-abbrev flow : ℕ → ℕ → ℕ → ℕ → ℕ → ℕ → Flow
-flow xs ys xd yd P σ = record { xs = xs; ys = ys; xd = xd; yd = yd; period = P; burst = σ }
 
 abbrev torus : List Flow → Plan
 torus fs = record { sx = 4; sy = 4; flows = fs }
@@ -28,10 +24,6 @@ torus fs = record { sx = 4; sy = 4; flows = fs }
 abbrev steps : ℕ → List Call
 steps zero = []
 steps (suc n) = step 80 ∷ steps n
-
--- flow, serial, entry cycle, exit cycle, D
-abbrev exit : ℕ → ℕ → ℕ → ℕ → ℕ → Delivery
-exit f s e t D = record { flow = f; serial = s; entry = e; exit = t; D = D }
 
 -- what a row says of the definitions
 pub data Case : Type 0 where
@@ -55,10 +47,6 @@ Says (spread p j) = conflict 4 4 (flowAt p 0) (flowAt p 1) ≡ Spread j
 Says (window p answer) = windowAnswer (planBytes [] p) 0 ≡ answer
 Says (delivers p cs ds ts) = (run p cs .delivered ≡ ds) × (map (λ (d : Delivery). flight (d .entry) (d .exit)) ds ≡ ts)
 Says (tokens p cs n) = (bucketAt (run p cs .book) 0) .tokens ≡ n
-
-abbrev pub AllHold : List Case → Type 0
-AllHold [] = Unit
-AllHold (c ∷ cs) = Says c × AllHold cs
 
 -- where a case of 01 names no period or burst, 9 and 1 stand for them
 abbrev far : Flow
@@ -89,12 +77,12 @@ slow = torus (flow 0 0 3 3 10 1 ∷ [])
 abbrev pub starred : List Case
 starred =
     bound far 20
-    ∷ delivers (torus (far ∷ [])) (offer 0 ∷ steps 7) (exit 0 1 0 6 0 ∷ []) (8 ∷ [])
+    ∷ delivers (torus (far ∷ [])) (offer 0 ∷ steps 7) (delivery 0 1 0 6 0 ∷ []) (8 ∷ [])
     ∷ offsets south 0 2
     ∷ bound south 12
-    ∷ delivers (torus (south ∷ [])) (offer 0 ∷ steps 3) (exit 0 1 0 2 0 ∷ []) (4 ∷ [])
-    ∷ delivers (torus (flow 2 2 2 2 9 1 ∷ [])) (offer 0 ∷ steps 1) (exit 0 1 0 0 0 ∷ []) (2 ∷ [])
-    ∷ delivers meeting (offer 0 ∷ offer 1 ∷ steps 6) (exit 1 1 0 1 0 ∷ exit 0 1 0 5 1 ∷ []) (3 ∷ 7 ∷ [])
+    ∷ delivers (torus (south ∷ [])) (offer 0 ∷ steps 3) (delivery 0 1 0 2 0 ∷ []) (4 ∷ [])
+    ∷ delivers (torus (flow 2 2 2 2 9 1 ∷ [])) (offer 0 ∷ steps 1) (delivery 0 1 0 0 0 ∷ []) (2 ∷ [])
+    ∷ delivers meeting (offer 0 ∷ offer 1 ∷ steps 6) (delivery 1 1 0 1 0 ∷ delivery 0 1 0 5 1 ∷ []) (3 ∷ 7 ∷ [])
     ∷ window (across 10 1) (Done 2)
     ∷ window (across 2 3) (Done 6)
     ∷ window (across 1 1) (Refused 14 0)
@@ -104,5 +92,5 @@ starred =
     ∷ tokens slow (offer 0 ∷ steps 9) 0
     ∷ tokens slow (offer 0 ∷ steps 10) 1
     -- not starred: serial 2 of flow 0 leaves in cycle 2, serial 1 in cycle 5
-    ∷ delivers overtaking (offer 0 ∷ offer 0 ∷ offer 1 ∷ steps 6) (exit 1 1 0 1 0 ∷ exit 0 2 1 2 0 ∷ exit 0 1 0 5 1 ∷ []) (3 ∷ 3 ∷ 7 ∷ [])
+    ∷ delivers overtaking (offer 0 ∷ offer 0 ∷ offer 1 ∷ steps 6) (delivery 1 1 0 1 0 ∷ delivery 0 2 1 2 0 ∷ delivery 0 1 0 5 1 ∷ []) (3 ∷ 3 ∷ 7 ∷ [])
     ∷ []

@@ -38,10 +38,6 @@ abbrev pub sameWords : Delivery → Delivery → Bool
 sameWords d e =
     eqb (d .flow) (e .flow) && eqb (d .serial) (e .serial) && eqb (d .entry) (e .entry) && eqb (d .exit) (e .exit) && eqb (d .D) (e .D)
 
--- a delivery's five words are this line's
-abbrev pub delivers : Line → Delivery → Bool
-delivers l d = sameWords d (deliveryOf l)
-
 -- the book and all that was delivered
 pub record Promises (p : Plan) (b : Book) (delivered : List Delivery) : Type 0 where
   -- where a line's flow has a window T, it enters in time
@@ -50,7 +46,7 @@ pub record Promises (p : Plan) (b : Book) (delivered : List Delivery) : Type 0 w
   pub deflections-most : (l : Line) → Mem l (b .lines) → l .D ≤ mostDeflections (p .sx) (p .sy) (flowAt p (l .flow))
   pub flies : (l : Line) → Mem l (b .lines) → Flies p (flowAt p (l .flow)) (l .D) (b .clock) (l .stage)
   -- each line with an exit was delivered once, and nothing else was delivered
-  pub delivered-once : (l : Line) → Mem l (b .lines) → isLeft (l .stage) ≡ true → count (delivers l) delivered ≡ 1
-  pub delivered-only : (d : Delivery) → Mem d delivered → (l : Line) × Mem l (b .lines) × (isLeft (l .stage) ≡ true) × (delivers l d ≡ true)
+  pub delivered-once : (l : Line) → Mem l (b .lines) → isLeft (l .stage) ≡ true → count (λ d. sameWords d (deliveryOf l)) delivered ≡ 1
+  pub delivered-only : (d : Delivery) → Mem d delivered → (l : Line) × Mem l (b .lines) × (isLeft (l .stage) ≡ true) × (d ≡ deliveryOf l)
   -- no two lines share a place
   pub apart : (at : Place) → count (λ (l : Line). standsIn at (l .stage)) (b .lines) ≤ 1

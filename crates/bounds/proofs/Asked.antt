@@ -2,9 +2,8 @@
 use mathlib.Core.Bool.{Bool, true, false, cond}
 use mathlib.Core.List.{List}
 use mathlib.Core.Logic.{inl, inr}
-use mathlib.Core.Path.{_≡_, refl}
+use mathlib.Core.Path.{_≡_, refl, sym}
 use Prim.Native.Nat.{ℕ, _<_}
-use native.Mathlib.Omega.{arith}
 use borrow.Author.Tests.{ltb-true}
 use lib.Dec.{ltb}
 use lib.ListN.{length}
@@ -14,6 +13,7 @@ use Rattle.plan.specs.declared.Answer.the-variants.{Done, Refused}
 use Rattle.plan.specs.declared.Trailer.{Trailer}
 use Rattle.plan.specs.Layout.{trailerOf, planOf}
 use Rattle.plan.specs.Refusals.{refusedOr, planAnswer}
+use Rattle.plan.proofs.Refusals.{refused-done}
 use Rattle.bounds.specs.Bounds.{asked}
 use Rattle.bounds.specs.Inner.{Opened, FlowInFile}
 use Rattle.bounds.proofs.Opened.{opened-count}
@@ -23,9 +23,7 @@ refused-first : (plan : Answer) (b : Bool) (n place : ℕ) (a : Answer)
     → refusedOr plan (cond b (Done 0) (Refused 12 0)) ≡ Refused n place → refusedOr plan (cond b a (Refused 12 0)) ≡ Refused n place
 refused-first (Refused m q) b n place a e = e
 refused-first (Done v) false n place a e = e
-refused-first (Done v) true n place a e =
-    let never : _≡_ {A = ℕ} 0 1 = cc in
-    absurd (omega arith)
+refused-first (Done v) true n place a e = absurd (refused-done n place 0 (sym e))
 
 pub asked-refused : (file : List ℕ) (f n place : ℕ) (a : Answer) → asked file f (Done 0) ≡ Refused n place → asked file f a ≡ Refused n place
 unfolding asked
@@ -43,16 +41,11 @@ unfolding asked
 asked-done file f v e = go (planAnswer file) refl e
   where
     go : (plan : Answer) → planAnswer file ≡ plan → refusedOr plan (cond (ltb f (length (planOf file .flows))) (Done 0) (Refused 12 0)) ≡ Done v → Known file f
-    go (Refused n place) p q =
-        let never : _≡_ {A = ℕ} 0 1 = cc in
-        absurd (omega arith)
+    go (Refused n place) p q = absurd (refused-done n place v q)
     go (Done w) p q =
         elim (test (ltb f (length (planOf file .flows)))) [
           | inl below ↦ record { value = w; done = p; below = ltb-true _ _ below; answers = λ a. rw (p, below) }
-          | inr above ↦
-              let refused : Refused 12 0 ≡ Done v = rw above at q in
-              let never : _≡_ {A = ℕ} 0 1 = cc in
-              absurd (omega arith)
+          | inr above ↦ absurd (refused-done 12 0 v (rw above at q))
         ]
 
 -- with the trailer that was read

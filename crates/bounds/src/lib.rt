@@ -4,7 +4,7 @@ use plan::Answer;
 use plan::Trailer;
 use window::Window;
 ghost use mathlib.Core.Path.{_≡_};
-ghost use Prim.Native.Nat.{_+_, _*_, _<_, _≤_};
+ghost use Prim.Native.Nat.{_+_, _*_, _≤_};
 ghost use lib.ListN.{length};
 ghost use Rattle.flow.specs.Plan.{flowAt};
 ghost use Rattle.plan.specs.declared.Answer.the-variants.{Done};

@@ -9,22 +9,22 @@ use Rattle.plan.specs.declared.Answer.{Answer}
 use Rattle.plan.specs.declared.Answer.the-variants.{Done, Refused}
 use Rattle.plan.specs.Refusals.{answerBy, refusedOr, firstRefused}
 
+-- a refusal is no accepted answer
+pub refused-done : (n place v : ℕ) → Refused n place ≡ Done v → ⊥
+refused-done n place v e = let z : _≡_ {A = ℕ} 0 1 = cc in omega arith
+
 pub answer-refused : (n place : ℕ) → (n ≡ 0 → ⊥) → Refused n place ≡ answerBy n place
 answer-refused zero place h = absurd (h refl)
 answer-refused (suc n) place h = refl
 
 pub answer-done : (n place v : ℕ) → answerBy n place ≡ Done v → n ≡ 0
 answer-done zero place v e = refl
-answer-done (suc n) place v e =
-    let z : _≡_ {A = ℕ} 0 1 = cc in
-    absurd (omega arith)
+answer-done (suc n) place v e = absurd (refused-done (suc n) place v e)
 
 -- a call whose parts are all accepted
 pub or-else-done : (a later : Answer) (v : ℕ) → refusedOr a later ≡ Done v → (w : ℕ) × (a ≡ Done w) × (later ≡ Done v)
 or-else-done (Done w) later v e = (w, refl, e)
-or-else-done (Refused n place) later v e =
-    let z : _≡_ {A = ℕ} 0 1 = cc in
-    absurd (omega arith)
+or-else-done (Refused n place) later v e = absurd (refused-done n place v e)
 
 module _ (number : ℕ → ℕ) where
   pub first-none : firstRefused number 0 ≡ Done 0

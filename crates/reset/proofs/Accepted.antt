@@ -15,6 +15,7 @@ use Rattle.plan.specs.declared.Answer.{Answer}
 use Rattle.plan.specs.declared.Answer.the-variants.{Done, Refused}
 use Rattle.plan.specs.Layout.{planOf}
 use Rattle.plan.specs.Refusals.{planAnswer}
+use Rattle.plan.proofs.Refusals.{refused-done}
 use Rattle.plan.proofs.Ranges.{Bytes, plan-ok}
 use Rattle.place.specs.Place.{W, N}
 use Rattle.state.specs.State.{freshTally, resetState}
@@ -49,20 +50,17 @@ pub record Accepted (file memory : List ℕ) : Type 0 where
   pub file-done : planAnswer file ≡ Done value
   pub long : planSize (planOf file) ≤ length memory
 
-pub never : (n place v : ℕ) → Refused n place ≡ Done v → ⊥
-never n place v e = let z : _≡_ {A = ℕ} 0 1 = cc in omega arith
-
 done-parts : (a : Answer) (memory : List ℕ) (o : Outcome Answer (List ℕ)) → (unlessRefused a memory o) .answer ≡ Done 0
     → (v : ℕ) × (a ≡ Done v) × (o .answer ≡ Done 0)
 unfolding unlessRefused
 done-parts (Done v) memory o e = (v, refl, e)
-done-parts (Refused n place) memory o e = absurd (never n place 0 e)
+done-parts (Refused n place) memory o e = absurd (refused-done n place 0 e)
 
 done-long : (p : Plan) (memory : List ℕ) → (freshOn p memory) .answer ≡ Done 0 → planSize p ≤ length memory
 done-long p memory e =
     elim (decLe (planSize p) (length memory)) [
       | yes h ↦ h
-      | no h ↦ absurd (never 8 0 0 (rw (lt-ltb (length memory) (planSize p) (omega arith)) at e))
+      | no h ↦ absurd (refused-done 8 0 0 (rw (lt-ltb (length memory) (planSize p) (omega arith)) at e))
     ]
 
 pub accepted : (file memory : List ℕ) → (resetOn file memory) .answer ≡ Done 0 → Accepted file memory

@@ -15,6 +15,7 @@ use Rattle.flow.specs.Plan.{Plan, flowAt}
 use Rattle.plan.specs.declared.Answer.{Answer}
 use Rattle.plan.specs.declared.Answer.the-variants.{Done}
 use Rattle.plan.specs.Layout.{planOf}
+use Rattle.plan.proofs.Refusals.{refused-done}
 use Rattle.plan.proofs.Ranges.{Bytes, plan-ok}
 use Rattle.window.specs.Flight.{flight, flightOf, flightBound, mostDeflections}
 use Rattle.window.proofs.Flight.{flight-of, flight-bounded}
@@ -34,9 +35,9 @@ use Rattle.state.specs.Outcome.{Outcome, Lent}
 use Rattle.state.specs.Layout.{planSize}
 use Rattle.state.specs.Reset.{resetOn}
 use Rattle.state.proofs.Read.{clock-read, tally-at-read}
-use Rattle.reset.proofs.Accepted.{never, accepted}
+use Rattle.reset.proofs.Accepted.{accepted}
 use Rattle.writing.proofs.Back.{file-back}
-use Rattle.run.specs.List.{offer, Item, onMemory, memoryAfter, role, roleIn, IsList, fedAs, fed, due, Follows}
+use Rattle.run.specs.List.{offer, reset, Item, onMemory, memoryAfter, role, roleIn, IsList, fedAs, fed, due, Follows}
 use Rattle.run.specs.View.{bookState}
 use Rattle.run.specs.Answers.{bookAfter, HasRun, EnteredBy, acceptedLine, EveryAnswer}
 use Rattle.run.proofs.View.{tally-at}
@@ -75,6 +76,10 @@ run-last : (p : Plan) (b : Book) (cs : List Call) (c : Call) → (runFrom p b (c
 run-last p b [] c = refl
 run-last p b (d ∷ cs) c = run-last p ((feed p b d) .book) cs c
 
+-- an offer is no reset
+offer-reset : (f : ℕ) (file : List ℕ) → offer f ≡ reset file → ⊥
+offer-reset f file e = let z : _≡_ {A = ℕ} 0 1 = cc in omega arith
+
 module _ (p : Plan) (b : Book) (f : ℕ) where
   -- an offer that is answered by 0 is not refused, and adds its line
   offer-passes : (feed p b (Feed.offer f)) .reply ≡ Done 0 → refusal p b (Feed.offer f) ≡ 0
@@ -83,7 +88,7 @@ module _ (p : Plan) (b : Book) (f : ℕ) where
     where
       go : (n : ℕ) → (judged p b (Feed.offer f) n) .reply ≡ Done 0 → n ≡ 0
       go zero q = refl
-      go (suc n) q = absurd (never _ _ _ q)
+      go (suc n) q = absurd (refused-done _ _ _ q)
 
   offer-adds : (feed p b (Feed.offer f)) .reply ≡ Done 0 → (feed p b (Feed.offer f)) .book ≡ offered b f
   unfolding feed
@@ -146,9 +151,9 @@ module _ (file words : List ℕ) (bytes : Bytes file) (done : (resetOn file word
     was-fed : (onMemory memory i) .answer ≡ Done 0 → (roleIn p i ≡ role (i .asked)) × ((feed p b (Feed.offer f)) .reply ≡ Done 0)
     was-fed e =
         let due-is : (due p b words i (roleIn p i)) .answer ≡ Done 0 =
-        sym (ap (λ (o : Outcome Answer Lent). o .answer) (does p words b kept i tt)) ∙ ap (λ m. (onMemory m i) .answer) (sym (follows .state)) ∙ e in
+        sym (ap (λ (o : Outcome Answer Lent). o .answer) (does p words b kept i (λ g e. absurd (offer-reset f g e)))) ∙ ap (λ m. (onMemory m i) .answer) (sym (follows .state)) ∙ e in
         elim (test (ltb n (planSize p))) [
-          | inl few ↦ absurd (never _ _ _ (rw few at due-is))
+          | inl few ↦ absurd (refused-done _ _ _ (rw few at due-is))
           | inr all ↦ (rw all, rw all at due-is)
         ]
 

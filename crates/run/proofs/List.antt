@@ -1,7 +1,7 @@
 -- The theorem on whole lists: every answer, every word delivered and every word of the state are the packet book's, and the
 -- book keeps its promises. Rests on Calls, Reset and the book's promises.
 use mathlib.Core.List.{List, [], _∷_, _++_, map, append-assoc}
-use mathlib.Core.Logic.{inl, inr}
+use mathlib.Core.Logic.{_≢_, inl, inr}
 use mathlib.Core.Path.{_≡_, refl, sym, ap, subst, _∙_}
 use Prim.Native.Nat.{ℕ, _-_, _*_, _≤_, _<_}
 use borrow.Author.Tests.{ltb-true, ltb-false}
@@ -36,7 +36,7 @@ use Rattle.reset.proofs.Accepted.{accepted, leaves}
 use Rattle.cycle.specs.Offer.{offerOn}
 use Rattle.cycle.specs.Step.{stepOn}
 use Rattle.run.specs.List.{Asked, offer, step, write, reset, onWords, Item, onMemory, memoryAfter, Role, feeds, between, resets, role, tooLittle, roleIn}
-use Rattle.run.specs.List.{MayCome, IsList, fedAs, fed, beside, outcomes, bookMemory, due, expected}
+use Rattle.run.specs.List.{IsList, fedAs, fed, beside, outcomes, bookMemory, due, expected}
 use Rattle.run.specs.List.{Follows, EveryList}
 use Rattle.run.specs.View.{bookState}
 use Rattle.run.proofs.Offer.{start-follows}
@@ -109,26 +109,30 @@ module _ (p : Plan) (words : List ℕ) where
       abbrev item : Asked → Item
       item c = record { asked = c; lentWords = n }
 
-      does-reset : (file : List ℕ) → MayCome resets ((onMemory m (item (reset file))) .answer) → Does (item (reset file)) resets
+      -- a call that is no accepted reset
+      abbrev May : Asked → Type 0
+      May c = (file : List ℕ) → c ≡ reset file → (onMemory m (item c)) .answer ≢ Done 0
+
+      does-reset : (file : List ℕ) → May (reset file) → Does (item (reset file)) resets
       does-reset file may =
           let part = take n m in
-          unchanged m (item (reset file)) _ _ (ap (λ w. outcome ((resetOn file part) .answer) (lent w [])) (reset-refused file part may))
+          unchanged m (item (reset file)) _ _ (ap (λ w. outcome ((resetOn file part) .answer) (lent w [])) (reset-refused file part (may file refl)))
 
-      does-enough : (c : Asked) → planSize p ≤ n → MayCome (role c) ((onMemory m (item c)) .answer) → Does (item c) (role c)
+      does-enough : (c : Asked) → planSize p ≤ n → May c → Does (item c) (role c)
       does-enough (offer f) h may = enough (feed p b (Feed.offer f) .book) (item (offer f)) _ _ h (λ t. offer-on p b k t f)
       does-enough (step delivery) h may =
           enough (feed p b (Feed.step (length delivery)) .book) (item (step delivery)) _ _ h (λ t. step-on p b k t delivery)
       does-enough (write notes target) h may = enough b (item (write notes target)) _ _ h (λ t. write-on p b k t notes target)
       does-enough (reset file) h may = does-reset file may
 
-      does-little : (c : Asked) → n < planSize p → MayCome (role c) ((onMemory m (item c)) .answer) → Does (item c) (tooLittle (role c))
+      does-little : (c : Asked) → n < planSize p → May c → Does (item c) (tooLittle (role c))
       unfolding offerOn stepOn writeOn unless
       does-little (offer f) few may = unchanged m (item (offer f)) _ _ (rw (short p b tail k n few))
       does-little (step delivery) few may = unchanged m (item (step delivery)) _ _ (rw (short p b tail k n few))
       does-little (write notes target) few may = unchanged m (item (write notes target)) _ _ (rw (short p b tail k n few))
       does-little (reset file) few may = does-reset file may
 
-    pub does : (i : Item) → MayCome (role (i .asked)) ((onMemory m i) .answer) → Does i (roleIn p i)
+    pub does : (i : Item) → May (i .lentWords) (i .asked) → Does i (roleIn p i)
     does i may =
         elim (test (ltb (i .lentWords) (planSize p))) [
           | inl few ↦ rw few (does-little (i .lentWords) (i .asked) (ltb-true _ _ few) may)

@@ -1,6 +1,6 @@
 -- A refused reset leaves the words lent to it as they were. Rests on the definition of reset.
 use mathlib.Core.List.{List}
-use mathlib.Core.Logic.{inl, inr}
+use mathlib.Core.Logic.{_≢_, inl, inr}
 use mathlib.Core.Path.{_≡_, refl}
 use Prim.Native.Nat.{ℕ}
 use lib.Dec.{ltb}
@@ -13,10 +13,9 @@ use Rattle.plan.specs.Refusals.{planAnswer}
 use Rattle.state.specs.Outcome.{unlessRefused}
 use Rattle.state.specs.Layout.{planSize}
 use Rattle.state.specs.Reset.{resetOn}
-use Rattle.run.specs.List.{MayCome, resets}
 
 module _ (file words : List ℕ) where
-  pub reset-refused : MayCome resets ((resetOn file words) .answer) → (resetOn file words) .memory ≡ words
+  pub reset-refused : (resetOn file words) .answer ≢ Done 0 → (resetOn file words) .memory ≡ words
   unfolding resetOn unlessRefused
   reset-refused e = by-plan (planAnswer file) refl
     where
@@ -25,5 +24,5 @@ module _ (file words : List ℕ) where
       by-plan (Done value) p =
           elim (test (ltb (length words) (planSize (planOf file)))) [
             | inl short ↦ rw (p, short)
-            | inr long ↦ absurd (rw (p, long) at e)
+            | inr long ↦ absurd (e (rw (p, long)))
           ]

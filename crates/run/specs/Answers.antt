@@ -4,7 +4,7 @@ use mathlib.Core.Bool.{true, false}
 use mathlib.Core.List.{List, [], _∷_, _++_, List·Memᴰ as Mem}
 use mathlib.Core.Path.{_≡_}
 use Prim.Native.Nat.{ℕ, _+_, _-_, _≤_, _<_}
-use lib.ListN.{length, getD}
+use lib.ListN.{length}
 use Rattle.flow.specs.Plan.{flowAt}
 use Rattle.plan.specs.declared.Answer.the-variants.{Done}
 use Rattle.plan.specs.Layout.{planOf}
@@ -19,9 +19,8 @@ use Rattle.book.specs.Promises.{deadline}
 use Rattle.state.specs.Layout.{flowPlace}
 use Rattle.state.specs.Read.{clockIn, tallyIn}
 use Rattle.state.specs.Outcome.{outcome, over}
-use Rattle.state.specs.Reset.{resetOn}
 use Rattle.state.specs.Writing.{writeOn}
-use Rattle.run.specs.List.{offer, Item, onMemory, memoryAfter, IsList, fed}
+use Rattle.run.specs.List.{offer, Item, onMemory, memoryAfter, fed, OfEveryList}
 
 -- the packet book after a list from the file's reset
 abbrev pub bookAfter : (file : List ℕ) → List Item → Book
@@ -63,9 +62,5 @@ pub record Told (file : List ℕ) (is : List Item) (b : Book) (memory : List ℕ
   pub writes-back : (target : List ℕ) → length file ≤ length target
       → writeOn memory (notesOf file) target ≡ outcome (Done (length file)) (over file target)
 
--- for every plan file that reset accepts, every state memory of at least its size and every list of calls
 abbrev pub EveryAnswer : Type 0
-EveryAnswer =
-    (file words : List ℕ) → ((i : ℕ) → getD file i 0 < 256) → (resetOn file words) .answer ≡ Done 0
-    → (is : List Item) → IsList ((resetOn file words) .memory) is
-    → Told file is (bookAfter file is) (memoryAfter ((resetOn file words) .memory) is)
+EveryAnswer = OfEveryList (λ file words memory is. Told file is (bookAfter file is) (memoryAfter memory is))

@@ -3,13 +3,14 @@
 -- A later request's call is one case more of `Asked`, `onWords` and `role`; all else is said of any call.
 use mathlib.Core.Bool.{cond}
 use mathlib.Core.List.{List, [], _∷_, _++_}
+use mathlib.Core.Logic.{_≢_}
 use mathlib.Core.Path.{_≡_}
 use Prim.Native.Nat.{ℕ, _<_}
 use lib.Dec.{ltb}
 use lib.ListN.{length, getD, take, drop}
 use Rattle.flow.specs.Plan.{Plan}
 use Rattle.plan.specs.declared.Answer.{Answer}
-use Rattle.plan.specs.declared.Answer.the-variants.{Done, Refused}
+use Rattle.plan.specs.declared.Answer.the-variants.{Done}
 use Rattle.plan.specs.Layout.{planOf}
 use Rattle.plan.specs.Written.{planBytes}
 use Rattle.book.specs.Book.{Book, start}
@@ -80,15 +81,10 @@ abbrev pub roleIn : Plan → Item → Role
 roleIn p i = cond (ltb (i .lentWords) (planSize p)) (tooLittle (role (i .asked))) (role (i .asked))
 
 -- the one condition on a list: it ends before the next accepted reset
-abbrev pub MayCome : Role → Answer → Type 0
-MayCome (feeds call other) answer = Unit {0}
-MayCome (between tells other) answer = Unit {0}
-MayCome resets (Done value) = ⊥
-MayCome resets (Refused number place) = Unit {0}
-
 abbrev pub IsList : (memory : List ℕ) → List Item → Type 0
 IsList memory [] = Unit {0}
-IsList memory (i ∷ is) = MayCome (role (i .asked)) ((onMemory memory i) .answer) × IsList ((onMemory memory i) .memory .state) is
+IsList memory (i ∷ is) =
+    ((file : List ℕ) → i .asked ≡ reset file → (onMemory memory i) .answer ≢ Done 0) × IsList ((onMemory memory i) .memory .state) is
 
 -- what the book is fed: each offer's flow and each step's length of delivery memory
 abbrev pub fedAs : Role → List Call
@@ -135,8 +131,10 @@ pub record Follows (p : Plan) (words memory : List ℕ) (is : List Item) : Type 
   pub promised : Promises p ((run p (fed p is)) .book) ((run p (fed p is)) .delivered)
 
 -- for every plan file that reset accepts, every state memory of at least its size and every list of calls
-abbrev pub EveryList : Type 0
-EveryList =
+abbrev pub OfEveryList : ((file words memory : List ℕ) → List Item → Type 0) → Type 0
+OfEveryList Holds =
     (file words : List ℕ) → ((i : ℕ) → getD file i 0 < 256) → (resetOn file words) .answer ≡ Done 0
-    → (is : List Item) → IsList ((resetOn file words) .memory) is
-    → Follows (planOf file) words ((resetOn file words) .memory) is
+    → (is : List Item) → IsList ((resetOn file words) .memory) is → Holds file words ((resetOn file words) .memory) is
+
+abbrev pub EveryList : Type 0
+EveryList = OfEveryList (λ file. Follows (planOf file))

@@ -1,7 +1,8 @@
 -- What the program prints for a plan file (01, Cases on both sides, at the end).
 use mathlib.Core.List.{List, [], _∷_, _++_}
-use Prim.Native.Nat.{ℕ, zero, suc}
+use Prim.Native.Nat.{ℕ}
 use lib.ListN.{length}
+use Rattle.laws.specs.Count.{joinBelow}
 use Rattle.flow.specs.declared.Flow.{Flow}
 use Rattle.flow.specs.declared.Port.{Port}
 use Rattle.flow.specs.declared.Port.the-variants.{East, South}
@@ -34,30 +35,21 @@ abbrev pub portField : Port → List ℕ
 portField East = 32 ∷ 69 ∷ []
 portField South = 32 ∷ 83 ∷ []
 
--- T, or `-` on 14
-abbrev pub windowField : Window → List ℕ
-windowField (At T) = field T
-windowField Nothing = noField
-
--- the lone wait, or `-` on 14
-abbrev pub waitField : Flow → Window → List ℕ
-waitField f (At T) = field (loneWait f T)
-waitField f Nothing = noField
+-- what T gives, or `-` on 14
+abbrev pub windowField : (given : ℕ → ℕ) → Window → List ℕ
+windowField given (At T) = field (given T)
+windowField given Nothing = noField
 
 -- number, port, T, flight bound, lone wait
 unfoldable pub row : ℕ → Flow → Port → Window → ℕ → List ℕ
-row f flow port window flight = decimal f ++ portField port ++ windowField window ++ field flight ++ waitField flow window ++ newline
+row f flow port window flight =
+    decimal f ++ portField port ++ windowField (λ T. T) window ++ field flight ++ windowField (loneWait flow) window ++ newline
 
 -- the line of flow number f
 unfoldable pub line : Plan → ℕ → List ℕ
 line p f =
     let flow = flowAt p f in
     row f flow (portOf (p .sx) flow) (windowOf p f) (flightBound (p .sx) (p .sy) flow)
-
--- the lines of the first n flows
-unfoldable pub lines : Plan → ℕ → List ℕ
-lines p zero = []
-lines p (suc n) = lines p n ++ line p n
 
 -- "flow port window flight wait"
 abbrev pub header : List ℕ
@@ -70,7 +62,7 @@ abbrev pub refusedLine : ℕ → ℕ → List ℕ
 refusedLine number place = (114 ∷ 101 ∷ 102 ∷ 117 ∷ 115 ∷ 101 ∷ 100 ∷ []) ++ field number ++ field place ++ newline
 
 abbrev pub tableBy : Answer → Plan → List ℕ
-tableBy (Done v) p = header ++ lines p (length (p .flows))
+tableBy (Done v) p = header ++ joinBelow (length (p .flows)) (line p)
 tableBy (Refused number place) p = refusedLine number place
 
 -- the table of a plan file; a refused file prints one line and no header

@@ -7,11 +7,13 @@ use window::Window;
 ghost use mathlib.Core.List.{_∷_, []};
 ghost use Prim.Native.Nat.{_+_, _*_, _<_, _≤_};
 ghost use lib.ListN.{length};
+ghost use Rattle.laws.specs.Count.{joinBelow};
 ghost use Rattle.laws.specs.Written.{Wrote};
 ghost use Rattle.plan.specs.Layout.{planOf};
+ghost use Rattle.window.specs.Window.{loneWait};
 ghost use Rattle.bounds.specs.Inner.{Opened, FlowInFile};
 ghost use Rattle.table.specs.Decimal.{decimal};
-ghost use Rattle.table.specs.Table.{field, noField, portField, windowField, waitField, row, line, lines, refusedLine, tableOf};
+ghost use Rattle.table.specs.Table.{field, noField, portField, windowField, row, line, refusedLine, tableOf};
 ghost use Rattle.table.specs.Inner.{mostDigits, mostField, mostLine, mostTable, WaitFits};
 
 fn put_byte(out: &mut [u8], at: usize, b: u8) -> usize
@@ -64,7 +66,7 @@ fn put_none(out: &mut [u8], at: usize) -> usize
 // T, or `-` where there is no window.
 fn put_window(out: &mut [u8], at: usize, window: Window) -> usize
     requires { ⌜ at + mostField ≤ length (now out) ⌝ }
-    ensures { λ r. ⌜ Wrote (now (out .entry)) at (windowField window) r (now (out .exit)) ⌝ }
+    ensures { λ r. ⌜ Wrote (now (out .entry)) at (windowField (λ T. T) window) r (now (out .exit)) ⌝ }
     ensures { λ r. ⌜ r ≤ at + mostField ⌝ }
 {
     match window {
@@ -76,7 +78,7 @@ fn put_window(out: &mut [u8], at: usize, window: Window) -> usize
 // The lone wait, or `-` where there is no window.
 fn put_wait(out: &mut [u8], at: usize, flow: Flow, window: Window) -> usize
     requires { ⌜ (WaitFits flow window) × (at + mostField ≤ length (now out)) ⌝ }
-    ensures { λ r. ⌜ Wrote (now (out .entry)) at (waitField flow window) r (now (out .exit)) ⌝ }
+    ensures { λ r. ⌜ Wrote (now (out .entry)) at (windowField (loneWait flow) window) r (now (out .exit)) ⌝ }
     ensures { λ r. ⌜ r ≤ at + mostField ⌝ }
 {
     match window {
@@ -144,7 +146,7 @@ fn put_refused(out: &mut [u8], at: usize, number: u32, place: u32) -> usize
 // The lines of all flows of an accepted file.
 fn put_lines(file: &[u8], t: Trailer, out: &mut [u8], at: usize) -> usize
     requires { ⌜ (Opened (now file) t) × (at + mostLine * t .count ≤ length (now out)) ⌝ }
-    ensures { λ r. ⌜ Wrote (now (out .entry)) at (lines (planOf (now (file .entry))) (t .count)) r (now (out .exit)) ⌝ }
+    ensures { λ r. ⌜ Wrote (now (out .entry)) at (joinBelow (t .count) (line (planOf (now (file .entry))))) r (now (out .exit)) ⌝ }
     ensures { λ r. ⌜ r ≤ at + mostLine * t .count ⌝ }
 {
     let count = t.count;

@@ -4,9 +4,8 @@ use Prim.Native.Nat.{ℕ, _-_, _*_}
 use lib.Dec.{leb, eqb}
 use Rattle.torus.specs.Axis.{offset}
 use Rattle.flow.specs.declared.Flow.{Flow}
-use Rattle.flow.specs.declared.Port.{Port}
-use Rattle.flow.specs.declared.Port.the-variants.{East, South}
-use Rattle.flow.specs.Offsets.{ΔX, ΔY, portOf, sameClient}
+use Rattle.flow.specs.declared.Port.the-variants.{East}
+use Rattle.flow.specs.Offsets.{ΔX, ΔY, portOf, sameClient, samePort}
 use Rattle.window.specs.declared.Conflict.{Conflict}
 use Rattle.window.specs.declared.Conflict.the-variants.{Free, Spread}
 
@@ -30,10 +29,7 @@ unfoldable pub conflictSouth : ℕ → ℕ → Flow → Flow → Conflict
 conflictSouth sx sy f g =
     cond (eqb (g .xd) (f .xs) && leb (rowsTo sy f g) (ΔY sy g)) (Spread (rowsTo sy f g * sx)) Free
 
-abbrev conflictAt : ℕ → ℕ → Flow → Flow → Port → Conflict
-conflictAt sx sy f g East = conflictEast sx sy f g
-conflictAt sx sy f g South = conflictSouth sx sy f g
-
 -- how g, a flow other than f, conflicts with f at f's source
 unfoldable pub conflict : ℕ → ℕ → Flow → Flow → Conflict
-conflict sx sy f g = cond (sameClient f g) (Spread 0) (conflictAt sx sy f g (portOf sx f))
+conflict sx sy f g =
+    cond (sameClient f g) (Spread 0) (cond (samePort (portOf sx f) East) (conflictEast sx sy f g) (conflictSouth sx sy f g))

@@ -1,24 +1,25 @@
 -- `put_lines`: line by line; there is room for each.
 use mathlib.Core.Path.{_≡_}
 use Prim.Native.Nat.{_+_, _-_, _*_, _≤_}
+use native.Mathlib.Numerals.{add-one}
 use native.Mathlib.Omega.{arith}
+use Rattle.laws.specs.Count.{joinBelow}
 use Rattle.laws.specs.Written.{Wrote}
 use Rattle.laws.proofs.Written.{wrote-none, wrote-then, wrote-length}
 use Rattle.plan.specs.Layout.{planOf}
-use Rattle.table.specs.Table.{lines}
+use Rattle.table.specs.Table.{line}
 use Rattle.table.specs.Inner.{mostLine}
-use Rattle.table.proofs.Rows.{lines-none, lines-more}
 use Rattle.table.proofs.put_lines.Statement.{statement}
 use Rattle.table.proofs.put_lines.Tie as tie
 
 abbrev Inv-loop : tie.InvT-loop
-Inv-loop file t out₀ at count next₀ f₀ out next f = (f ≤ count) × ((next ≤ at + mostLine * f) × Wrote out₀ at (lines (planOf file) f) next out)
+Inv-loop file t out₀ at count next₀ f₀ out next f = (f ≤ count) × ((next ≤ at + mostLine * f) × Wrote out₀ at (joinBelow f (line (planOf file))) next out)
 
 abbrev μ-loop : tie.MeasureT-loop
 μ-loop file t out₀ at count next₀ f₀ out next f = count - f
 
 loop-holds : tie.Need-loop-holds Inv-loop μ-loop
-loop-holds c = (omega arith, (omega arith, rw lines-none (wrote-none _ _)))
+loop-holds c = (omega arith, (omega arith, wrote-none _ _))
 
 put-line-requires : tie.Need-put-line-requires Inv-loop μ-loop
 put-line-requires c κs =
@@ -29,7 +30,7 @@ loop-again : tie.Need-loop-again Inv-loop μ-loop
 loop-again c =
     let inv = c .before .before .before .before .before .loop .inv in
     let line = c .before .before .put-line .ensures in
-    (omega arith, (omega (arith, inv .1 .0, line .1), rw (← lines-more) (wrote-then (inv .1 .1) (line .0))))
+    (omega arith, (omega (arith, inv .1 .0, line .1), rw add-one (wrote-then (inv .1 .1) (line .0))))
 
 same-length : tie.Need-same-length Inv-loop μ-loop
 same-length c = wrote-length (c .before .loop .inv .1 .1)
