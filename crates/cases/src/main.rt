@@ -86,13 +86,13 @@ fn reset_first(asked: &[u8], file: &[u8], bytes: usize, words: &mut [u32], n: us
 
 fn offer(asked: &[u8], words: &mut [u32], n: usize, flow: u32) {
     if n <= words.len() {
-        told(asked, engine::offer(&mut words[..n], flow));
+        told(asked, offer::offer(&mut words[..n], flow));
     }
 }
 
 fn step(asked: &[u8], words: &mut [u32], delivery: &mut [u32], n: usize) {
     if n <= delivery.len() {
-        told(asked, engine::step(words, &mut delivery[..n]));
+        told(asked, step::step(words, &mut delivery[..n]));
     }
 }
 

@@ -9,7 +9,7 @@ use native.Mathlib.Decide.{decLt}
 use native.Mathlib.Omega.{arith}
 use borrow.Author.Tests.{lt-ltb, le-ltb}
 use lib.Dec.{ltb}
-use lib.ListN.{length, drop}
+use lib.ListN.{drop}
 use lib.Seq.{sets}
 use Rattle.laws.specs.Turns.{turns}
 use Rattle.laws.proofs.Turns.{turns-more}
@@ -20,7 +20,7 @@ use Rattle.state.specs.State.{tallyAt, cellAt}
 use Rattle.state.specs.Words.{tallyWords}
 use Rattle.state.specs.Read.{countIn, flowIn, tallyIn, stateOf}
 use Rattle.state.specs.Facts.{StateFacts}
-use Rattle.state.proofs.View.{view-count}
+use Rattle.state.proofs.View.{counted}
 use Rattle.state.proofs.Read.{flow-read, tally-read}
 use Rattle.state.proofs.Holds.{Holds, hold-same, tally-written}
 use Rattle.state.proofs.Again.{state-again}
@@ -32,10 +32,6 @@ module _ (w : List ℕ) (s : StateFacts w) where
   abbrev pub talliesAfter : (n f : ℕ) → Tally
   talliesAfter n f = cond (ltb f n) (nextTally (stateOf w) f) (tallyAt (stateOf w) f)
 
-  pub counted : length ((stateOf w) .plan .flows) ≡ countIn w
-  unfolding stateOf
-  counted = view-count w
-
   pub turned : (n : ℕ) → n ≤ countIn w
       → Holds ((stateOf w) .plan) ((stateOf w) .clock) (talliesAfter n) (cellAt (stateOf w)) (drop (planSize ((stateOf w) .plan)) w) (turns n (tallied w) w)
   unfolding turns tallied
@@ -43,7 +39,7 @@ module _ (w : List ℕ) (s : StateFacts w) where
   turned (suc n) h =
       let now : talliesAfter (suc n) n ≡ nextTally (stateOf w) n = rw (lt-ltb n (suc n) (omega arith)) in
       rw (← now)
-      (tally-written _ _ (talliesAfter n) _ _ _ (turned n (omega arith)) n (rw counted h) (talliesAfter (suc n)) others)
+      (tally-written _ _ (talliesAfter n) _ _ _ (turned n (omega arith)) n (rw (counted w) h) (talliesAfter (suc n)) others)
     where
       others : (g : ℕ) → g ≢ n → talliesAfter (suc n) g ≡ talliesAfter n g
       others g ne =
@@ -55,12 +51,12 @@ module _ (w : List ℕ) (s : StateFacts w) where
   -- flow f's words, before its own turn, and its turn
   module _ (f : ℕ) (below : f < countIn w) (l : List ℕ) (at : ℕ) (now : l ≡ turns f (tallied w) w) (place : at ≡ flowPlace f) where
     pub turned-flow : flowIn l at ≡ flowAt ((stateOf w) .plan) f
-    turned-flow = rw (now, place) (flow-read _ (flowPlace f) _ _ (turned f (omega arith) .front .flow f (rw counted below)))
+    turned-flow = rw (now, place) (flow-read _ (flowPlace f) _ _ (turned f (omega arith) .front .flow f (rw (counted w) below)))
 
     pub turned-tally : tallyIn l at ≡ tallyAt (stateOf w) f
     turned-tally =
         rw (now, place)
-        (tally-read _ (flowPlace f) _ _ (turned f (omega arith) .front .flow f (rw counted below)) ∙ rw (le-ltb f f (omega arith)))
+        (tally-read _ (flowPlace f) _ _ (turned f (omega arith) .front .flow f (rw (counted w) below)) ∙ rw (le-ltb f f (omega arith)))
 
     pub turned-more : (t : Tally) → t ≡ nextTally (stateOf w) f → sets l (at + numberSize) (tallyWords t) ≡ turns (f + 1) (tallied w) w
     unfolding tallied

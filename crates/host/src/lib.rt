@@ -1,4 +1,4 @@
-// The C interface, declared in include/hrt.h: thin, over the calls of plan, bounds, reset, writing and engine.
+// The C interface, declared in include/hrt.h: thin, over the calls of plan, bounds, reset, writing, offer and step.
 use plan::Answer;
 ghost use mathlib.Core.Path.{_≡_};
 ghost use Rattle.bounds.specs.Bounds.{windowAnswer, flightBoundAnswer};
@@ -79,7 +79,7 @@ pub extern "C" fn hrt_write(state: &[u32], notes: &[u8], target: &mut [u8]) -> u
 pub extern "C" fn hrt_offer(state: &mut [u32], flow: u32) -> u64
     ensures { λ r. ⌜ outcome r (now (state .exit)) ≡ inWords (offerOn (now (state .entry)) flow) ⌝ }
 {
-    answer_word(engine::offer(state, flow))
+    answer_word(offer::offer(state, flow))
 }
 
 // One cycle, and its exits.
@@ -87,5 +87,5 @@ pub extern "C" fn hrt_offer(state: &mut [u32], flow: u32) -> u64
 pub extern "C" fn hrt_step(state: &mut [u32], delivery: &mut [u32]) -> u64
     ensures { λ r. ⌜ outcome r (lent (now (state .exit)) (now (delivery .exit))) ≡ inWords (stepOn (now (state .entry)) (now (delivery .entry))) ⌝ }
 {
-    answer_word(engine::step(state, delivery))
+    answer_word(step::step(state, delivery))
 }

@@ -21,6 +21,11 @@ module _ (w : List ℕ) where
   unfolding planIn
   view-count = length-tabulate (countIn w) (λ f. flowIn w (flowPlace f))
 
+  -- the flows of the state's plan
+  pub counted : length ((stateOf w) .plan .flows) ≡ countIn w
+  unfolding stateOf
+  counted = view-count
+
   -- the size that the header asks for is that of its plan
   pub view-size : planSize (planIn w) ≡ sizeIn w
   unfolding planIn

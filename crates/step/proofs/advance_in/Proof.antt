@@ -8,9 +8,9 @@ use Rattle.state.specs.Read.{stateOf}
 use Rattle.state.proofs.Over.{over-sets}
 use Rattle.cycle.specs.Step.{deliveries}
 use Rattle.routing.proofs.Exits.{delivers-fit}
-use Rattle.engine.proofs.Next.{next-over}
-use Rattle.engine.proofs.advance_in.Statement.{statement}
-use Rattle.engine.proofs.advance_in.Tie as tie
+use Rattle.step.proofs.Next.{next-over}
+use Rattle.step.proofs.advance_in.Statement.{statement}
+use Rattle.step.proofs.advance_in.Tie as tie
 
 store-next-requires : tie.Need-store-next-requires
 store-next-requires c κs =

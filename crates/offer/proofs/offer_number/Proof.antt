@@ -3,8 +3,8 @@ use borrow.Author.Needs.{needs}
 use borrow.Author.Tests.{le-leb, lt-leb}
 use Rattle.flow.specs.Limits.{offerNumber}
 use Rattle.state.proofs.View.{view-plan, view-count}
-use Rattle.engine.proofs.offer_number.Statement.{statement}
-use Rattle.engine.proofs.offer_number.Tie as tie
+use Rattle.offer.proofs.offer_number.Statement.{statement}
+use Rattle.offer.proofs.offer_number.Tie as tie
 
 returns : tie.Need-returns
 unfolding offerNumber

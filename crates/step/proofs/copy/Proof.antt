@@ -8,8 +8,8 @@ use borrow.Author.Needs.{needs}
 use lib.ListN.{length, getD, set, take, length-set}
 use lib.Seq.{sets, length-take-le, take-suc}
 use Rattle.laws.proofs.Stands.{sets-append}
-use Rattle.engine.proofs.copy.Statement.{statement}
-use Rattle.engine.proofs.copy.Tie as tie
+use Rattle.step.proofs.copy.Statement.{statement}
+use Rattle.step.proofs.copy.Tie as tie
 
 -- one word more
 copied : (from to : List ℕ) (at i : ℕ) → i < length from → set (sets to at (take i from)) (at + i) (getD from i 0) ≡ sets to at (take (i + 1) from)

@@ -16,9 +16,9 @@ use Rattle.state.specs.Forms.{stateNumber}
 use Rattle.state.proofs.Forms.{state-facts}
 use Rattle.state.proofs.Over.{unless-passes, unless-refuses}
 use Rattle.cycle.specs.Step.{stepOn}
-use Rattle.engine.specs.Next.{Stepping}
-use Rattle.engine.proofs.step.Statement.{statement}
-use Rattle.engine.proofs.step.Tie as tie
+use Rattle.step.specs.Next.{Stepping}
+use Rattle.step.proofs.step.Statement.{statement}
+use Rattle.step.proofs.step.Tie as tie
 
 -- what 10 and 11 leave: room for every router's exit, and a clock that can go on
 room : (w delivery : List ℕ) → stepNumber ((stateOf w) .plan) (length delivery) ((stateOf w) .clock) ≡ 0 → clockIn w < lastClock + 1

@@ -5,8 +5,8 @@ use native.Mathlib.Omega.{arith}
 use Rattle.state.specs.Read.{planIn, stateOf}
 use Rattle.flow.specs.Limits.{stepNumber}
 use Rattle.cycle.proofs.Facts.{cells-most}
-use Rattle.engine.proofs.step_number.Statement.{statement}
-use Rattle.engine.proofs.step_number.Tie as tie
+use Rattle.step.proofs.step_number.Statement.{statement}
+use Rattle.step.proofs.step_number.Tie as tie
 
 mul-routers : tie.Need-mul-routers
 mul-routers c = omega (arith, cells-most _ (c .before .before .pre))

@@ -3,9 +3,9 @@ use mathlib.Core.Path.{_∙_}
 use borrow.Author.Needs.{needs}
 use native.Mathlib.Omega.{arith}
 use Rattle.cycle.proofs.Facts.{tally-ok}
-use Rattle.engine.proofs.Next.{offered-over}
-use Rattle.engine.proofs.wait_more.Statement.{statement}
-use Rattle.engine.proofs.wait_more.Tie as tie
+use Rattle.offer.proofs.Waits.{offered-over}
+use Rattle.offer.proofs.wait_more.Statement.{statement}
+use Rattle.offer.proofs.wait_more.Tie as tie
 
 tally-at-requires : tie.Need-tally-at-requires
 tally-at-requires c κs = c .before .before .pre

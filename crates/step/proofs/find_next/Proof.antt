@@ -1,7 +1,7 @@
 -- `find_next`: the entrants, then the routers.
 use borrow.Author.Needs.{needs}
-use Rattle.engine.proofs.find_next.Statement.{statement}
-use Rattle.engine.proofs.find_next.Tie as tie
+use Rattle.step.proofs.find_next.Statement.{statement}
+use Rattle.step.proofs.find_next.Tie as tie
 
 route-all-requires : tie.Need-route-all-requires
 route-all-requires c κs =

@@ -16,8 +16,8 @@ use Rattle.state.proofs.View.{view-plan, view-count}
 use Rattle.state.proofs.Forms.{state-facts}
 use Rattle.state.proofs.Over.{unless-passes, unless-refuses}
 use Rattle.cycle.specs.Offer.{offerOn}
-use Rattle.engine.proofs.offer.Statement.{statement}
-use Rattle.engine.proofs.offer.Tie as tie
+use Rattle.offer.proofs.offer.Statement.{statement}
+use Rattle.offer.proofs.offer.Tie as tie
 
 -- the flow is one of the plan where 12 isn't given
 named : (w : List ℕ) (f waiting : ℕ) → offerNumber ((stateOf w) .plan) f waiting ≡ 0 → f < countIn w

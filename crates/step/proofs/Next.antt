@@ -1,59 +1,36 @@
--- The words that an offer or a step writes hold the state after it: one writer's law for an offer, three for a step.
--- Rests on Push and the laws of a state's words.
+-- The words that a step writes hold the state after it, by one law for each of its three writers. Rests on Push and the laws of a
+-- state's words.
 use mathlib.Core.List.{List}
-use mathlib.Core.Path.{_≡_, sym, _∙_}
+use mathlib.Core.Path.{_≡_, _∙_}
 use Prim.Native.Nat.{ℕ, _+_, _*_, _≤_, _<_}
 use native.Mathlib.Omega.{arith}
 use borrow.Author.Tests.{lt-ltb}
 use lib.ListN.{length, set, take, drop}
-use lib.Seq.{sets, getD-set-same, getD-set-other, length-take-le}
+use lib.Seq.{sets, length-take-le}
 use Rattle.laws.specs.Grid.{cellIndex}
 use Rattle.laws.specs.Turns.{turns}
 use Rattle.laws.proofs.Bounded.{getD-tabulate}
 use Rattle.laws.proofs.Grid.{getD-grid, cell-below}
 use Rattle.laws.proofs.Stands.{Stands, stands-take}
-use Rattle.state.specs.declared.Tally.{Tally}
-use Rattle.state.specs.Layout.{clockPlace, numberSize, routerSize, flowPlace, planSize}
+use Rattle.state.specs.Layout.{clockPlace, routerSize, flowPlace, planSize}
 use Rattle.state.specs.State.{State, tallyAt, cellAt, freshTally, emptyCell}
-use Rattle.state.specs.Words.{tallyWords, cellWords, stateWords}
+use Rattle.state.specs.Words.{cellWords, stateWords}
 use Rattle.state.specs.Read.{sxIn, syIn, countIn, clockIn, planIn, stateOf}
 use Rattle.state.specs.Outcome.{over}
 use Rattle.state.proofs.Words.{length-cell}
 use Rattle.state.specs.Facts.{StateFacts}
-use Rattle.state.proofs.View.{view-sized}
-use Rattle.state.proofs.Holds.{HoldsState, hold-same, hold-over, tally-written, clock-written, registers-written}
-use Rattle.state.proofs.Again.{state-again}
-use Rattle.cycle.specs.Offer.{offerState}
+use Rattle.state.proofs.View.{counted}
+use Rattle.state.proofs.Holds.{HoldsState, hold-same, hold-over, clock-written, registers-written}
 use Rattle.cycle.specs.Step.{nextTally, nextCell, stepState}
 use Rattle.entry.specs.Entrants.{tallied}
-use Rattle.entry.proofs.Tally.{counted, turned}
+use Rattle.entry.proofs.Tally.{turned}
 use Rattle.routing.specs.Walk.{registersIn, pushedAll}
 use Rattle.routing.proofs.Push.{pushed-cell, length-pushed}
-use Rattle.engine.specs.Next.{nextWords}
+use Rattle.step.specs.Next.{nextWords}
 
 module _ (w : List ℕ) (facts : StateFacts w) where
   abbrev s : State
   s = stateOf w
-
-  -- an offer to flow f: its tally, with one more waiting
-  module _ (f : ℕ) (below : f < countIn w) where
-    abbrev more : Tally
-    more = record { bucket = (tallyAt s f) .bucket; entered = (tallyAt s f) .entered; waiting = (tallyAt s f) .waiting + 1 }
-
-    offer-holds : HoldsState (offerState s f) (drop (planSize ((offerState s f) .plan)) w)
-        (sets w (flowPlace f + numberSize) (tallyWords (tallyAt (offerState s f) f)))
-    unfolding offerState
-    offer-holds =
-        tally-written _ _ _ _ _ _ (state-again w facts) f (rw (counted w facts) below) (tallyAt (offerState s f))
-        (λ g e. getD-set-other (s .tallies) f g more (freshTally 0) e)
-
-    offered : tallyAt (offerState s f) f ≡ more
-    unfolding offerState
-    offered = getD-set-same (s .tallies) f more (freshTally 0) (omega (arith, view-sized w .tallies-all, counted w facts))
-
-    pub offered-over : (at : ℕ) (t : Tally) → at ≡ flowPlace f → t ≡ more
-        → sets w (at + numberSize) (tallyWords t) ≡ over (stateWords (offerState (stateOf w) f)) w
-    offered-over at t e d = rw (e, d ∙ sym offered) (hold-over (offerState s f) _ w offer-holds)
 
   -- a step: the next tallies, the next clock, and the registers that the walk leaves in l
   module _ (l : List ℕ) (room : registersIn w ≤ length l) where
@@ -74,7 +51,7 @@ module _ (w : List ℕ) (facts : StateFacts w) where
     written : nextWords w (pushedAll w l)
         ≡ sets (set (turns (countIn w) (tallied w) w) clockPlace (clockIn w + 1)) (flowPlace (length (s .plan .flows))) registers
     unfolding nextWords
-    written = rw (counted w facts)
+    written = rw (counted w)
 
     step-holds : HoldsState (stepState s) (drop (planSize ((stepState s) .plan)) w) (nextWords w (pushedAll w l))
     unfolding stepState stateOf planIn
@@ -84,7 +61,7 @@ module _ (w : List ℕ) (facts : StateFacts w) where
         (registers-written _ _ _ _ _ (clock-written _ _ _ _ _ _ (turned w facts (countIn w) (omega arith)) (clockIn w + 1) .front)
         (nextCell s) registers registers-length next-cell)
         (tallyAt (stepState s)) (cellAt (stepState s))
-        (λ f h. getD-tabulate (length (s .plan .flows)) (nextTally s) f (freshTally 0) h ∙ rw (lt-ltb f (countIn w) (rw (counted w facts) at h)))
+        (λ f h. getD-tabulate (length (s .plan .flows)) (nextTally s) f (freshTally 0) h ∙ rw (lt-ltb f (countIn w) (rw (counted w) at h)))
         (λ x y h k. getD-grid (sxIn w) (syIn w) (nextCell s) emptyCell x y h k))
 
     -- the words of the state after the cycle, and the rest as it was

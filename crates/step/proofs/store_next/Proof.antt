@@ -3,9 +3,9 @@ use mathlib.Core.Path.{_∙_}
 use borrow.Author.Needs.{needs}
 use native.Mathlib.Omega.{arith}
 use Rattle.cycle.proofs.Facts.{cells-most}
-use Rattle.engine.specs.Next.{nextWords}
-use Rattle.engine.proofs.store_next.Statement.{statement}
-use Rattle.engine.proofs.store_next.Tie as tie
+use Rattle.step.specs.Next.{nextWords}
+use Rattle.step.proofs.store_next.Statement.{statement}
+use Rattle.step.proofs.store_next.Tie as tie
 
 mul-routers : tie.Need-mul-routers
 mul-routers c = omega (arith, cells-most _ (c .before .before .before .before .before .pre .0 .facts))

@@ -9,8 +9,8 @@ use Rattle.state.specs.Read.{sxIn, syIn, planIn, stateOf}
 use Rattle.entry.specs.Entrants.{Entrants}
 use Rattle.entry.proofs.Entrant.{entrants-none}
 use Rattle.cycle.proofs.Facts.{cells-most}
-use Rattle.engine.proofs.advance.Statement.{statement}
-use Rattle.engine.proofs.advance.Tie as tie
+use Rattle.step.proofs.advance.Statement.{statement}
+use Rattle.step.proofs.advance.Tie as tie
 
 -- no entrants yet, in room for n of them
 none : (w : List ℕ) (n : ℕ) → sxIn w * syIn w ≤ n → Entrants (stateOf w) 0 (replicate n 0)

@@ -1,2 +1,0 @@
--- The laws of the engine.
-pub mod Next

@@ -1,0 +1,2 @@
+-- The words that an offer leaves.
+pub mod Waits

@@ -1,0 +1,60 @@
+// An offer of one packet to a flow. Rests on valid and cycle.
+use plan::Answer;
+use state::Tally;
+ghost use mathlib.Core.Path.{_≡_};
+ghost use Rattle.flow.specs.Limits.{offerNumber};
+ghost use Rattle.state.specs.Words.{stateWords};
+ghost use Rattle.state.specs.Read.{stateOf};
+ghost use Rattle.state.specs.Outcome.{outcome, over};
+ghost use Rattle.state.specs.State.{tallyAt};
+ghost use Rattle.state.specs.Facts.{StateFacts, StateFlow};
+ghost use Rattle.cycle.specs.Offer.{offerOn, offerState};
+
+// A packet more waits at flow f.
+fn wait_more(state: &mut [u32], f: u32)
+    requires { ⌜ StateFlow (now state) f ⌝ }
+    ensures { λ _. ⌜ now (state .exit) ≡ over (stateWords (offerState (stateOf (now (state .entry))) f)) (now (state .entry)) ⌝ }
+{
+    let t = cycle::tally_at(state, f);
+    let bucket = t.bucket;
+    let more = Tally {
+        bucket,
+        entered: t.entered,
+        waiting: t.waiting + 1,
+    };
+    state::put_tally(state, state::flow_place(f as usize), more);
+}
+
+// The refusal of an offer after the state's own, or 0.
+fn offer_number(state: &[u32], f: u32) -> u32
+    requires { ⌜ StateFacts (now state) ⌝ }
+    ensures { λ r. ⌜ r ≡ offerNumber ((stateOf (now (state .entry))) .plan) f ((tallyAt (stateOf (now (state .entry))) f) .waiting) ⌝ }
+{
+    if state[state::FLOWS] <= f {
+        return 12;
+    }
+    let t = cycle::tally_at(state, f);
+    if state::MOST_WAITING <= t.waiting {
+        return 13;
+    }
+    0
+}
+
+// An offer of one packet to a flow: 0, or the refusal.
+pub fn offer(state: &mut [u32], flow: u32) -> Answer
+    ensures { λ r. ⌜ outcome r (now (state .exit)) ≡ offerOn (now (state .entry)) flow ⌝ }
+{
+    let number = valid::state_number(state);
+    if number != 0 {
+        return Answer::Refused { number, place: 0 };
+    }
+    let other = offer_number(state, flow);
+    if other != 0 {
+        return Answer::Refused {
+            number: other,
+            place: 0,
+        };
+    }
+    wait_more(state, flow);
+    Answer::Done(0)
+}

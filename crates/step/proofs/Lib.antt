@@ -1,0 +1,2 @@
+-- The words that a step leaves.
+pub mod Next
