@@ -22,7 +22,8 @@ use Rattle.state.specs.Read.{sxIn, syIn, planIn, stateOf}
 use Rattle.state.specs.Facts.{StateFacts}
 use Rattle.cycle.specs.Step.{carried, leaving, delivered, deliveries}
 use Rattle.cycle.proofs.Facts.{cells-most}
-use Rattle.routing.specs.Walk.{pushed, pushedRow, rowDelivers, ExitRoom}
+use Rattle.output.specs.Grid.{ExitRoom}
+use Rattle.routing.specs.Walk.{pushed, pushedRow, rowDelivers}
 
 -- a walk whose turn i pushes registers into the next words and delivers
 pub record Walk : Type 0 where

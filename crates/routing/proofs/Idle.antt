@@ -14,9 +14,10 @@ use Rattle.state.specs.Read.{stateOf}
 use Rattle.cycle.specs.Seen.{view}
 use Rattle.cycle.specs.Sent.{isEmpty}
 use Rattle.cycle.specs.Step.{sendsBy, sentBy, carried, delivered}
-use Rattle.routing.specs.declared.Grid.{Grid}
+use Rattle.output.specs.declared.Grid.{Grid}
 use Rattle.routing.specs.Sent.{isNone, isIdle}
-use Rattle.routing.specs.Walk.{gridIn, push, pushed}
+use Rattle.output.specs.Grid.{push}
+use Rattle.routing.specs.Walk.{gridIn, pushed}
 
 module _ (s : State) (x y : ℕ) (idle : isIdle s x y ≡ true) where
   empty : (r : Register) → isEmpty r ≡ true → r ≡ Empty

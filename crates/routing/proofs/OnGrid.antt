@@ -2,8 +2,9 @@
 use mathlib.Core.List.{List}
 use Prim.Native.Nat.{ℕ, _<_}
 use Rattle.state.specs.Read.{sxIn, syIn}
-use Rattle.routing.specs.declared.Grid.{Grid}
-use Rattle.routing.specs.Walk.{OnGrid, AtRouter, Walking}
+use Rattle.output.specs.declared.Grid.{Grid}
+use Rattle.output.specs.Grid.{OnGrid}
+use Rattle.routing.specs.Walk.{AtRouter, Walking}
 
 module _ (w : List ℕ) (g : Grid) (entrants : List ℕ) (walk : Walking w g entrants) where
   pub column : (x : ℕ) → x < g .sx → x < sxIn w

@@ -32,7 +32,8 @@ use Rattle.state.proofs.Words.{length-register}
 use Rattle.cycle.specs.Sent.{eastward, southward, exits}
 use Rattle.cycle.specs.Step.{carried, nextRegister, nextCell}
 use Rattle.cycle.proofs.Sent.{east-is, south-is}
-use Rattle.routing.specs.Walk.{gridIn, torusOf, registersIn, registerPlace, push, pushed, pushedRow, pushedAll}
+use Rattle.output.specs.Grid.{torusOf, registerPlace, push}
+use Rattle.routing.specs.Walk.{gridIn, registersIn, pushed, pushedRow, pushedAll}
 
 -- two registers that don't meet
 cells-apart : (sx x y x′ y′ : ℕ) → x < sx → x′ < sx → eqb x x′ && eqb y y′ ≡ false → cellIndex sx x y ≢ cellIndex sx x′ y′

@@ -1,36 +1,23 @@
 // One walk over the routers: next registers, deliveries and their count. Rests on cycle and entry.
 use flow::Port;
+use output::Grid;
 use state::Register;
 ghost use mathlib.Core.Path.{_≡_};
-ghost use mathlib.Core.Bool.{cond, true, false};
+ghost use mathlib.Core.Bool.{false};
 ghost use Prim.Native.Nat.{_+_, _*_, _<_, _≤_};
 ghost use lib.ListN.{length};
 ghost use lib.Seq.{sets};
-ghost use Rattle.flow.specs.declared.Port.the-variants.{East, South};
-ghost use Rattle.flow.specs.Plan.{mostFlows};
 ghost use Rattle.flow.specs.Limits.{lastClock, exitSize};
 ghost use Rattle.router.specs.Rule.{entrant};
 ghost use Rattle.router.specs.Delivery.{wordsOf};
-ghost use Rattle.state.specs.declared.Register.the-variants.{Empty};
-ghost use Rattle.state.specs.Inner.{flowOf};
 ghost use Rattle.state.specs.Read.{sxIn, syIn, countIn, clockIn, stateOf};
 ghost use Rattle.state.specs.Facts.{StateFacts};
 ghost use Rattle.cycle.specs.Seen.{view};
-ghost use Rattle.cycle.specs.Sent.{isEmpty};
-ghost use Rattle.cycle.specs.Step.{leaving, delivered, deliveries};
+ghost use Rattle.cycle.specs.Step.{delivered, deliveries};
 ghost use Rattle.entry.specs.Entrants.{entrantIn, Entrants, AllEntered};
 ghost use Rattle.routing.specs.Sent.{clientSends, sentAt, isIdle};
-ghost use Rattle.routing.specs.Walk.{OnGrid, registersOf, registersIn, push, pushed, pushedRow, pushedAll, rowDelivers, AtRouter, Walking, ExitRoom};
-
-// The grid of a state's routers: columns, rows, and the flows in front of the registers.
-struct Grid {
-    sx: u32,
-    sy: u32,
-    flows: usize,
-}
-
-// The words of an exit.
-pub const EXIT_SIZE: usize = 5;
+ghost use Rattle.output.specs.Grid.{ExitRoom};
+ghost use Rattle.routing.specs.Walk.{registersIn, pushed, pushedRow, pushedAll, rowDelivers, AtRouter, Walking};
 
 // What is sent by the two outputs of a router.
 struct Sent {
@@ -101,74 +88,6 @@ fn sent_at(state: &[u32], x: u32, y: u32, entrants: &[u32]) -> Sent
     router_sends(state, x, y, entrants[client])
 }
 
-// Writes what goes E to the W register to the east.
-fn push_east(grid: Grid, x: u32, y: u32, east: Register, next: &mut [u32])
-    requires { ⌜ (OnGrid grid x y) × ((flowOf east < mostFlows) × (registersOf grid ≤ length (now next))) ⌝ }
-    ensures { λ _. ⌜ now (next .exit) ≡ push grid x y East east (now (next .entry)) ⌝ }
-{
-    let router = state::router_index(grid.sx, torus::next(grid.sx, x), y);
-    state::put_register(next, state::ROUTER_SIZE * router, east);
-}
-
-// Writes what goes S, and doesn't exit, to the N register to the south.
-fn push_south(grid: Grid, x: u32, y: u32, south: Register, next: &mut [u32])
-    requires { ⌜ (OnGrid grid x y) × ((flowOf south < mostFlows) × (registersOf grid ≤ length (now next))) ⌝ }
-    ensures { λ _. ⌜ now (next .exit) ≡ push grid x y South south (now (next .entry)) ⌝ }
-{
-    let router = state::router_index(grid.sx, x, torus::next(grid.sy, y));
-    state::put_register(
-        next,
-        state::ROUTER_SIZE * router + state::REGISTER_SIZE,
-        south,
-    );
-}
-
-// What is left of a packet that goes S.
-fn unless_exits(exits: bool, south: Register) -> Register
-    ensures { λ r. ⌜ r ≡ cond exits Empty south ⌝ }
-{
-    if exits {
-        return Register::Empty;
-    }
-    south
-}
-
-// Writes the five words of a packet that exits.
-fn put_exit(delivery: &mut [u32], at: usize, r: Register, clock: u32)
-    requires { ⌜ at + exitSize ≤ length (now delivery) ⌝ }
-    ensures { λ _. ⌜ now (delivery .exit) ≡ sets (now (delivery .entry)) at (wordsOf (leaving clock r)) ⌝ }
-{
-    match r {
-        Register::Empty => {}
-        Register::Packet {
-            flow,
-            serial,
-            entry,
-            deflections,
-        } => {
-            delivery[at] = flow;
-            delivery[at + 1] = serial;
-            delivery[at + 2] = entry;
-            delivery[at + 3] = clock;
-            delivery[at + 4] = deflections;
-        }
-    }
-}
-
-// Writes the words of a packet that exits behind those of `count` exits, and counts it.
-fn deliver(exits: bool, south: Register, clock: u32, delivery: &mut [u32], count: u32) -> u32
-    requires { ⌜ ExitRoom count 1 (now delivery) ⌝ }
-    requires { ⌜ (exits ≡ true → isEmpty south ≡ false) ⌝ }
-    ensures { λ r. ⌜ r ≡ count + length (leaving clock (cond exits south Empty)) ⌝ }
-    ensures { λ _. ⌜ now (delivery .exit) ≡ sets (now (delivery .entry)) (exitSize * count) (wordsOf (leaving clock (cond exits south Empty))) ⌝ }
-{
-    if exits {
-        put_exit(delivery, EXIT_SIZE * (count as usize), south, clock);
-        return count + 1;
-    }
-    count
-}
-
 // No packet stands at the router in column x and row y, nor enters there.
 fn is_idle(state: &[u32], grid: Grid, x: u32, y: u32, entrants: &[u32]) -> bool
     requires { ⌜ Walking (now state) grid (now entrants) ⌝ }
@@ -186,15 +105,6 @@ fn is_idle(state: &[u32], grid: Grid, x: u32, y: u32, entrants: &[u32]) -> bool
     }
     let north = cell.north;
     cycle::is_empty(north)
-}
-
-// An idle router empties its neighbours' next registers.
-fn pass_idle(grid: Grid, x: u32, y: u32, next: &mut [u32])
-    requires { ⌜ (OnGrid grid x y) × (registersOf grid ≤ length (now next)) ⌝ }
-    ensures { λ _. ⌜ now (next .exit) ≡ push grid x y South Empty (push grid x y East Empty (now (next .entry))) ⌝ }
-{
-    push_east(grid, x, y, Register::Empty, next);
-    push_south(grid, x, y, Register::Empty, next);
 }
 
 // The router in column x and row y: what it sends goes to its neighbours' next registers, or is delivered after `count` exits.
@@ -220,9 +130,9 @@ fn route(
     let east = sent.east;
     let south = sent.south;
     let exits = cycle::exits(state, x, y, south);
-    push_east(grid, x, y, east, next);
-    push_south(grid, x, y, unless_exits(exits, south), next);
-    deliver(exits, south, state[state::CLOCK], delivery, count)
+    output::push_east(grid, x, y, east, next);
+    output::push_south(grid, x, y, output::unless_exits(exits, south), next);
+    output::deliver(exits, south, state[state::CLOCK], delivery, count)
 }
 
 // The routers of row y, after `count` exits.
@@ -246,7 +156,7 @@ fn route_row(
     let mut done = count;
     for x in 0..grid.sx {
         if is_idle(state, grid, x, y, entrants) {
-            pass_idle(grid, x, y, next);
+            output::pass_idle(grid, x, y, next);
         } else {
             done = route(state, grid, x, y, entrants, next, delivery, done);
         }

@@ -8,7 +8,8 @@ use Rattle.state.specs.Read.{clockIn, stateOf}
 use Rattle.cycle.specs.Sent.{southward, exits}
 use Rattle.cycle.specs.Step.{leaving, delivered}
 use Rattle.cycle.proofs.Sent.{exits-some, delivered-is}
-use Rattle.routing.specs.Walk.{OnGrid, AtRouter, pushed}
+use Rattle.output.specs.Grid.{OnGrid}
+use Rattle.routing.specs.Walk.{AtRouter, pushed}
 use Rattle.routing.proofs.OnGrid.{on-grid, at-router}
 use Rattle.routing.proofs.Flows.{east-sent, south-sent, south-reaches}
 use Rattle.routing.proofs.Push.{pushed-is}

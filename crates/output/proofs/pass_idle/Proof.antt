@@ -2,8 +2,8 @@
 use mathlib.Core.Path.{_∙_}
 use borrow.Author.Needs.{needs}
 use native.Mathlib.Omega.{arith}
-use Rattle.routing.proofs.pass_idle.Statement.{statement}
-use Rattle.routing.proofs.pass_idle.Tie as tie
+use Rattle.output.proofs.pass_idle.Statement.{statement}
+use Rattle.output.proofs.pass_idle.Tie as tie
 
 abbrev start : tie.After-push-east → tie.Start
 start c = c .before .before .before

@@ -1,12 +1,12 @@
--- `push_south`: the N register of the neighbour to the south.
+-- `push_east`: the W register of the neighbour to the east.
 use mathlib.Core.Path.{_∙_}
 use borrow.Author.Needs.{needs}
 use native.Mathlib.Omega.{arith}
 use Rattle.laws.proofs.Grid.{cell-below}
 use Rattle.router.specs.Links.{reach}
 use Rattle.torus.proofs.Axis.{next-below}
-use Rattle.routing.proofs.push_south.Statement.{statement}
-use Rattle.routing.proofs.push_south.Tie as tie
+use Rattle.output.proofs.push_east.Statement.{statement}
+use Rattle.output.proofs.push_east.Tie as tie
 
 next-requires : tie.Need-next-requires
 next-requires c κs = let p = c .before .pre .0 in omega arith
@@ -14,13 +14,12 @@ next-requires c κs = let p = c .before .pre .0 in omega arith
 router-index-requires : tie.Need-router-index-requires
 router-index-requires c κs =
     let p = c .before .before .pre .0 in
-    let below = next-below _ _ (p .row) in
-    (p .sx-most, (p .column, rw (c .next .ensures) (omega arith)))
+    (p .sx-most, (rw (c .next .ensures) (next-below _ _ (p .column)), omega arith))
 
 put-register-requires : tie.Need-put-register-requires
 put-register-requires c κs =
     let p = c .before .before .before .before .pre in
-    let room = cell-below _ _ _ _ (p .0 .column) (next-below _ _ (p .0 .row)) in
+    let room = cell-below _ _ _ _ (next-below _ _ (p .0 .column)) (p .0 .row) in
     rw (c .before .router-index .ensures .0, c .before .before .next .ensures) (omega arith)
 
 returns : tie.Need-returns
@@ -29,6 +28,5 @@ returns c =
     let at = c .before .before .before .before in
     c .before .before .put-register .ensures ∙ rw (at .router-index .ensures .0, at .before .next .ensures)
 
-pub push-south-spec : {M : Type 1} → statement M
-push-south-spec =
-    tie.close (tie.spec next-requires router-index-requires (λ c. search needs) (λ c. search needs) put-register-requires (λ c. search needs) returns)
+pub push-east-spec : {M : Type 1} → statement M
+push-east-spec = tie.close (tie.spec next-requires router-index-requires (λ c. search needs) put-register-requires (λ c. search needs) returns)

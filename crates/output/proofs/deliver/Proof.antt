@@ -10,8 +10,8 @@ use Rattle.state.specs.declared.Register.{Register}
 use Rattle.state.specs.declared.Register.the-variants.{Empty, Packet}
 use Rattle.cycle.specs.Sent.{isEmpty}
 use Rattle.cycle.specs.Step.{leaving}
-use Rattle.routing.proofs.deliver.Statement.{statement}
-use Rattle.routing.proofs.deliver.Tie as tie
+use Rattle.output.proofs.deliver.Statement.{statement}
+use Rattle.output.proofs.deliver.Tie as tie
 
 -- a packet is one exit
 one-leaves : (clock : ℕ) (r : Register) → isEmpty r ≡ false → length (leaving clock r) ≡ 1

@@ -3,8 +3,8 @@ use borrow.Author.Needs.{needs}
 use native.Mathlib.Numerals.{towards-suc}
 use native.Mathlib.Omega.{arith}
 use lib.ListN.{length-set}
-use Rattle.routing.proofs.put_exit.Statement.{statement}
-use Rattle.routing.proofs.put_exit.Tie as tie
+use Rattle.output.proofs.put_exit.Statement.{statement}
+use Rattle.output.proofs.put_exit.Tie as tie
 
 slice-write-delivery-2 : tie.Need-slice-write-delivery-2
 slice-write-delivery-2 c = simp length-set (omega arith)

@@ -1,0 +1,2 @@
+-- The grid of a torus's routers.
+pub mod Grid
