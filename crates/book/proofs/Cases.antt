@@ -18,7 +18,7 @@ use Rattle.plan.specs.Refusals as Refusals
 use Rattle.plan.specs.Written as Written
 use Rattle.plan.specs.Written.{planBytes}
 use Rattle.window.specs.declared.Window.the-variants.{Nothing}
-use Rattle.window.specs.Conflict as Conflict
+use Rattle.conflict.specs.Conflict as Conflict
 use Rattle.window.specs.Window as Window
 use Rattle.window.specs.Window.{windowOf}
 use Rattle.window.proofs.Windows.{window-none}

@@ -13,9 +13,9 @@ use Rattle.flow.specs.declared.Flow.{Flow}
 use Rattle.flow.specs.declared.Port.{Port}
 use Rattle.flow.specs.declared.Port.the-variants.{East, South}
 use Rattle.flow.specs.Offsets.{ΔX, ΔY, portOf, sameClient}
-use Rattle.window.specs.declared.Conflict.{Conflict}
-use Rattle.window.specs.declared.Conflict.the-variants.{Free, Spread}
-use Rattle.window.specs.Conflict.{rowsTo, columnsTo, conflict, conflictEast, conflictSouth}
+use Rattle.conflict.specs.declared.Conflict.{Conflict}
+use Rattle.conflict.specs.declared.Conflict.the-variants.{Free, Spread}
+use Rattle.conflict.specs.Conflict.{rowsTo, columnsTo, conflict, conflictEast, conflictSouth}
 
 -- g never meets f, or after K cycles and at most J more, when its progress is past the point
 pub data Meeting : Type 0 where

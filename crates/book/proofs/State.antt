@@ -13,7 +13,7 @@ use Rattle.flow.specs.Plan.{Plan, flowAt}
 use Rattle.flow.specs.Ranges.{FlowOk}
 use Rattle.bucket.specs.Regulator.{bucketFits}
 use Rattle.bucket.proofs.Regulator.{fits}
-use Rattle.window.specs.Flight.{travel, mostDeflections}
+use Rattle.flight.specs.Flight.{travel, mostDeflections}
 use Rattle.place.specs.Place.{Place, W, N}
 use Rattle.place.specs.InPlace.{inPlace}
 use Rattle.router.proofs.Path.{OnPath, placed-on, entered-before}

@@ -16,7 +16,7 @@ use Rattle.flow.specs.declared.Port.the-variants.{South}
 use Rattle.flow.specs.Offsets.{ΔX, ΔY, portOf, sameClient}
 use Rattle.flow.specs.Plan.{Plan, flowAt}
 use Rattle.flow.specs.Ranges.{FlowOk}
-use Rattle.window.specs.Conflict.{rowsTo, columnsTo}
+use Rattle.conflict.specs.Conflict.{rowsTo, columnsTo}
 use Rattle.place.specs.Place.{Place, W, N, columnOf, rowOf}
 use Rattle.place.specs.InPlace.{rowsDone}
 use Rattle.router.specs.Rule.{Seen, turnsSouth, Way, wayBy, wayFrom}

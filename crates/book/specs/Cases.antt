@@ -9,9 +9,9 @@ use Rattle.flow.specs.Plan.{Plan, flow, flowAt}
 use Rattle.plan.specs.declared.Answer.{Answer}
 use Rattle.plan.specs.declared.Answer.the-variants.{Done, Refused}
 use Rattle.plan.specs.Written.{planBytes}
-use Rattle.window.specs.declared.Conflict.the-variants.{Spread}
-use Rattle.window.specs.Conflict.{conflict}
-use Rattle.window.specs.Flight.{flight, flightBound}
+use Rattle.conflict.specs.declared.Conflict.the-variants.{Spread}
+use Rattle.conflict.specs.Conflict.{conflict}
+use Rattle.flight.specs.Flight.{flight, flightBound}
 use Rattle.bounds.specs.Bounds.{windowAnswer}
 use Rattle.book.specs.Book.{bucketAt}
 use Rattle.router.specs.Delivery.{Delivery, delivery}

@@ -9,7 +9,7 @@ use Rattle.flow.specs.declared.Flow.{Flow}
 use Rattle.flow.specs.Plan.{Plan, flowAt}
 use Rattle.window.specs.declared.Window.the-variants.{At}
 use Rattle.window.specs.Window.{windowOf}
-use Rattle.window.specs.Flight.{travel, mostDeflections}
+use Rattle.flight.specs.Flight.{travel, mostDeflections}
 use Rattle.place.specs.Place.{Place, columnOf, rowOf}
 use Rattle.book.specs.Line.{Stage, waiting, placed, left, Line, isLeft, standsIn}
 use Rattle.book.specs.Book.{Book}

@@ -11,7 +11,7 @@ use Rattle.plan.specs.Layout as Layout
 use Rattle.plan.specs.Layout.{flowFrom, planOf, recordSize, trailerSize}
 use Rattle.plan.proofs.Accepted.{Trailed, done-trailed}
 use Rattle.plan.proofs.Ranges.{Bytes, plan-flow, plan-count, plan-ok}
-use Rattle.window.specs.Rivals.{Pair}
+use Rattle.conflict.specs.Inner.{Pair}
 use Rattle.bounds.specs.Inner.{Opened, FlowInFile}
 
 module _ (file : List ℕ) (t : Trailer) (o : Opened file t) where

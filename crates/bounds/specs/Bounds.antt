@@ -12,7 +12,7 @@ use Rattle.plan.specs.Refusals.{refusedOr, planAnswer}
 use Rattle.window.specs.declared.Window.{Window}
 use Rattle.window.specs.declared.Window.the-variants.{At, Nothing}
 use Rattle.window.specs.Window.{windowOf}
-use Rattle.window.specs.Flight.{flightBound}
+use Rattle.flight.specs.Flight.{flightBound}
 
 -- a call on a flow of a plan file: the plan's refusals, then 12: flow number F or more
 unfoldable pub asked : List ℕ → ℕ → Answer → Answer

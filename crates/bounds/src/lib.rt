@@ -33,7 +33,7 @@ fn meet(file: &[u8], t: Trailer, own: Flow, f: u32, g: u32, rivals: &mut [u32], 
         return n;
     }
     let other = flow_at(file, t, g);
-    let c = window::conflict_of(t.sx, t.sy, own, other);
+    let c = conflict::conflict_of(t.sx, t.sy, own, other);
     window::keep_rival(rivals, n, other, c)
 }
 
@@ -78,7 +78,7 @@ pub fn flight_bound_of(file: &[u8], t: Trailer, f: u32) -> u32
     requires { ⌜ FlowInFile (now file) t f ⌝ }
     ensures { λ r. ⌜ r ≡ flightBoundOf (planOf (now (file .entry))) f ⌝ }
 {
-    window::flight_bound(t.sx, t.sy, flow_at(file, t, f))
+    flight::flight_bound(t.sx, t.sy, flow_at(file, t, f))
 }
 
 // 0 for a flow of an accepted file, or the refusal.

@@ -17,8 +17,8 @@ use Rattle.plan.specs.declared.Answer.the-variants.{Done}
 use Rattle.plan.specs.Layout.{planOf}
 use Rattle.plan.proofs.Refusals.{refused-done}
 use Rattle.plan.proofs.Ranges.{Bytes, plan-ok}
-use Rattle.window.specs.Flight.{flight, flightOf, flightBound, mostDeflections}
-use Rattle.window.proofs.Flight.{flight-of, flight-bounded}
+use Rattle.flight.specs.Flight.{flight, flightOf, flightBound, mostDeflections}
+use Rattle.flight.proofs.Flight.{flight-of, flight-bounded}
 use Rattle.bounds.specs.Bounds.{windowAnswer}
 use Rattle.bounds.proofs.Told.{window-told, flight-told}
 use Rattle.book.specs.Line.{Line, Stage, waiting, placed, left, isWaiting, isLeft, entryOf, exitOf}

@@ -10,7 +10,7 @@ use Rattle.plan.specs.declared.Answer.the-variants.{Done}
 use Rattle.plan.specs.Layout.{planOf}
 use Rattle.plan.specs.Notes.{notesOf}
 use Rattle.window.specs.Window.{loneWait}
-use Rattle.window.specs.Flight.{flight}
+use Rattle.flight.specs.Flight.{flight}
 use Rattle.bounds.specs.Bounds.{windowAnswer, flightBoundAnswer}
 use Rattle.book.specs.Line.{Line, waiting, isWaiting, isLeft, entryOf, exitOf}
 use Rattle.book.specs.Book.{Book}

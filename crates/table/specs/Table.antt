@@ -15,7 +15,7 @@ use Rattle.plan.specs.Refusals.{planAnswer}
 use Rattle.window.specs.declared.Window.{Window}
 use Rattle.window.specs.declared.Window.the-variants.{At, Nothing}
 use Rattle.window.specs.Window.{windowOf, loneWait}
-use Rattle.window.specs.Flight.{flightBound}
+use Rattle.flight.specs.Flight.{flightBound}
 use Rattle.table.specs.Decimal.{decimal}
 
 -- the end of a line

@@ -9,12 +9,12 @@ use Rattle.laws.specs.Bounded.{sumBelow}
 use Rattle.laws.proofs.Sum.{sum-none, sum-more}
 use Rattle.flow.specs.Plan.{Plan, flowAt}
 use Rattle.flow.specs.Ranges.{PlanOk}
-use Rattle.window.specs.declared.Conflict.{Conflict}
-use Rattle.window.specs.declared.Conflict.the-variants.{Free, Spread}
-use Rattle.window.specs.Conflict.{conflict}
+use Rattle.conflict.specs.declared.Conflict.{Conflict}
+use Rattle.conflict.specs.declared.Conflict.the-variants.{Free, Spread}
+use Rattle.conflict.specs.Conflict.{conflict}
 use Rattle.window.specs.Window.{share, shareOf, interference, leastFrom, mostWindow, windowOf}
 use Rattle.window.specs.Rivals.{rivalWords, demandOf, RivalsAmong, Gathered, keepRival}
-use Rattle.window.proofs.Spread.{SpreadMost, none, some, spread-most}
+use Rattle.conflict.proofs.Spread.{SpreadMost, none, some, spread-most}
 use Rattle.window.proofs.Rivals.{demand-none, with-demand, with-ok}
 
 -- no flows, no rivals

@@ -1,8 +1,6 @@
 -- The laws of windows.
-pub mod Spread
 pub mod Least
 pub mod Windows
 pub mod Rivals
 pub mod Rates
 pub mod Gathered
-pub mod Flight

@@ -11,9 +11,10 @@ use Rattle.laws.proofs.Sum.{sum-none, sum-more, sum-same, sum-mono, sum-most}
 use Rattle.flow.specs.declared.Flow.{Flow}
 use Rattle.flow.specs.Plan.{mostFlows, mostBurst}
 use Rattle.bucket.proofs.Curve.{curve-span, curve-most}
-use Rattle.window.specs.declared.Conflict.the-variants.{Spread}
+use Rattle.conflict.specs.declared.Conflict.the-variants.{Spread}
 use Rattle.window.specs.Window.{share, mostWindow}
-use Rattle.window.specs.Rivals.{rivalWords, rivalShare, demandOf, mostSpread, RivalOk, Rivals, keepRival}
+use Rattle.conflict.specs.Inner.{mostSpread}
+use Rattle.window.specs.Rivals.{rivalWords, rivalShare, demandOf, RivalOk, Rivals, keepRival}
 
 pub demand-time : (l : List ℕ) (n t u : ℕ) → t ≤ u → demandOf l n t ≤ demandOf l n u
 unfolding demandOf rivalShare

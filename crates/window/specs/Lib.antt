@@ -1,5 +1,3 @@
--- Windows and flights, in 01's words.
-pub mod Conflict
+-- Windows, in 01's words.
 pub mod Window
 pub mod Rivals
-pub mod Flight

@@ -1,23 +1,16 @@
--- What the inner functions ask and keep: two flows of a plan, and the rivals of a flow, those that conflict with it, as three words each, σ, P and J.
+-- What the inner functions ask and keep: the rivals of a flow, those that conflict with it, as three words each, σ, P and J.
 use mathlib.Core.List.{List}
 use mathlib.Core.Path.{_≡_}
 use Prim.Native.Nat.{ℕ, _+_, _-_, _*_, _/_, _≤_, _<_}
 use lib.ListN.{length, getD, set}
 use Rattle.laws.specs.Bounded.{sumBelow}
 use Rattle.flow.specs.declared.Flow.{Flow}
-use Rattle.flow.specs.Plan.{Plan, mostSize, mostFlows, mostBurst}
-use Rattle.flow.specs.Ranges.{FlowOk}
+use Rattle.flow.specs.Plan.{Plan, mostFlows, mostBurst}
 use Rattle.bucket.specs.Curve.{curve}
-use Rattle.window.specs.declared.Conflict.{Conflict}
-use Rattle.window.specs.declared.Conflict.the-variants.{Free, Spread}
+use Rattle.conflict.specs.declared.Conflict.{Conflict}
+use Rattle.conflict.specs.declared.Conflict.the-variants.{Free, Spread}
+use Rattle.conflict.specs.Inner.{mostSpread}
 use Rattle.window.specs.Window.{shareOf}
-
--- two flows of one plan, as far as their conflict goes
-pub record Pair (sx sy : ℕ) (f g : Flow) : Type 0 where
-  pub sx-most : sx ≤ mostSize
-  pub sy-most : sy ≤ mostSize
-  pub own : FlowOk sx sy f
-  pub other : FlowOk sx sy g
 
 -- σ, P and J
 abbrev pub rivalWords : ℕ
@@ -42,10 +35,6 @@ rivalRate l k = wholeLink / getD l (rivalWords * k + 1) 0
 -- the rates of the first n rivals of the words l
 unfoldable pub ratesOf : List ℕ → ℕ → ℕ
 ratesOf l n = sumBelow n (rivalRate l)
-
--- no spread is larger: fewer than 16 rows, of at most 16 columns each
-abbrev pub mostSpread : ℕ
-mostSpread = 256
 
 -- rival number k of the words l has numbers in range
 pub record RivalOk (l : List ℕ) (k : ℕ) : Type 0 where

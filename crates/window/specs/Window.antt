@@ -7,11 +7,11 @@ use Rattle.laws.specs.Bounded.{sumBelow}
 use Rattle.flow.specs.declared.Flow.{Flow}
 use Rattle.flow.specs.Plan.{Plan, flowAt}
 use Rattle.bucket.specs.Curve.{curve}
-use Rattle.window.specs.declared.Conflict.{Conflict}
-use Rattle.window.specs.declared.Conflict.the-variants.{Free, Spread}
+use Rattle.conflict.specs.declared.Conflict.{Conflict}
+use Rattle.conflict.specs.declared.Conflict.the-variants.{Free, Spread}
 use Rattle.window.specs.declared.Window.{Window}
 use Rattle.window.specs.declared.Window.the-variants.{At, Nothing}
-use Rattle.window.specs.Conflict.{conflict}
+use Rattle.conflict.specs.Conflict.{conflict}
 
 -- what g adds to I(t): σ + ⌊(t−1+J)/P⌋ if it conflicts with spread J
 unfoldable pub share : Flow → ℕ → Conflict → ℕ

@@ -1,16 +1,13 @@
-// Conflicts, windows and flight bounds. Rests on flow and bucket.
+// The search for a flow's window among its rivals, and the lone wait. Rests on conflict and bucket.
+use conflict::Conflict;
+use flow::Flow;
 ghost use mathlib.Core.Path.{_≡_};
 ghost use Prim.Native.Nat.{_+_, _*_, _<_, _≤_};
 ghost use lib.Dec.{leb};
 ghost use lib.ListN.{length};
-ghost use Rattle.window.specs.Conflict.{conflict, conflictEast, conflictSouth};
 ghost use Rattle.window.specs.Window.{mostWindow, leastFrom, loneWait};
-ghost use Rattle.flow.specs.Plan.{mostSize, mostPeriod};
-ghost use Rattle.flow.specs.Ranges.{FlowOk};
-ghost use Rattle.window.specs.Flight.{flightBound};
-ghost use Rattle.window.specs.Rivals.{Pair, rivalWords, rivalShare, rivalRate, ratesOf, wholeLink, demandOf, Rivals, RivalOk, gathered, keepRival};
-use flow::Flow;
-use flow::Port;
+ghost use Rattle.flow.specs.Plan.{mostPeriod};
+ghost use Rattle.window.specs.Rivals.{rivalWords, rivalShare, rivalRate, ratesOf, wholeLink, demandOf, Rivals, RivalOk, gathered, keepRival};
 
 // Windows run from 1 to 65,535.
 pub const MOST_WINDOW: u32 = 65535;
@@ -23,69 +20,10 @@ const WHOLE_LINK: u32 = 2147483648;
 // The words of 256 rivals.
 pub const MOST_RIVAL_WORDS: usize = 768;
 
-// How a flow meets another at its source: not at all, or in conflict with the spread J.
-pub enum Conflict {
-    Free,
-    Spread(u32),
-}
-
 // The window T of a flow, or that there is none.
 pub enum Window {
     At(u32),
     Nothing,
-}
-
-// f's port is E and g's client is another.
-fn conflict_east(sx: u32, sy: u32, f: Flow, g: Flow) -> Conflict
-    requires { ⌜ Pair sx sy f g ⌝ }
-    ensures { λ r. ⌜ r ≡ conflictEast sx sy f g ⌝ }
-{
-    let rows = torus::offset(sy, g.ys, f.ys);
-    if rows == 0 {
-        let columns = torus::offset(sx, g.xs, f.xs);
-        if columns < 1 {
-            return Conflict::Free;
-        }
-        if g.offset_x(sx) < columns {
-            return Conflict::Free;
-        }
-        return Conflict::Spread(0);
-    }
-    if g.offset_y(sy) < rows {
-        return Conflict::Free;
-    }
-    Conflict::Spread((rows - 1) * sx)
-}
-
-// f's port is S and g's client is another.
-fn conflict_south(sx: u32, sy: u32, f: Flow, g: Flow) -> Conflict
-    requires { ⌜ Pair sx sy f g ⌝ }
-    ensures { λ r. ⌜ r ≡ conflictSouth sx sy f g ⌝ }
-{
-    if g.xd != f.xs {
-        return Conflict::Free;
-    }
-    let rows = torus::offset(sy, g.ys, f.ys);
-    let dy = g.offset_y(sy);
-    if dy < rows {
-        return Conflict::Free;
-    }
-    Conflict::Spread(rows * sx)
-}
-
-// How g, a flow other than f, conflicts with f at f's source.
-pub fn conflict_of(sx: u32, sy: u32, f: Flow, g: Flow) -> Conflict
-    requires { ⌜ Pair sx sy f g ⌝ }
-    ensures { λ r. ⌜ r ≡ conflict sx sy f g ⌝ }
-{
-    if f.same_client(g) {
-        return Conflict::Spread(0);
-    }
-    let port = f.port(sx);
-    match port {
-        Port::East => conflict_east(sx, sy, f, g),
-        Port::South => conflict_south(sx, sy, f, g),
-    }
 }
 
 // What rival number k adds to I(t).
@@ -176,16 +114,6 @@ pub fn keep_rival(rivals: &mut [u32], n: usize, g: Flow, c: Conflict) -> usize
             n + 1
         }
     }
-}
-
-// The most cycles of a flow's packet from entry to exit, with 2.
-pub fn flight_bound(sx: u32, sy: u32, f: Flow) -> u32
-    requires { ⌜ (FlowOk sx sy f) × ((sx ≤ mostSize) × (sy ≤ mostSize)) ⌝ }
-    ensures { λ r. ⌜ r ≡ flightBound sx sy f ⌝ }
-{
-    let dx = f.offset_x(sx);
-    let dy = f.offset_y(sy);
-    dx + dy + dy * sx + 2
 }
 
 // A lone packet's longest wait, by the flow's window.

@@ -5,7 +5,7 @@ use native.Mathlib.Omega.{arith}
 use Rattle.flow.specs.Plan.{flowAt}
 use Rattle.plan.specs.Layout.{planOf}
 use Rattle.plan.proofs.Ranges.{Bytes}
-use Rattle.window.specs.Conflict.{conflict}
+use Rattle.conflict.specs.Conflict.{conflict}
 use Rattle.window.specs.Rivals.{gathered}
 use Rattle.window.proofs.Gathered.{among-self, among-more}
 use Rattle.bounds.proofs.Opened.{flow-pair, opened-ok, opened-count, opened-sx, opened-sy}

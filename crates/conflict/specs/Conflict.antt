@@ -6,8 +6,8 @@ use Rattle.torus.specs.Axis.{offset}
 use Rattle.flow.specs.declared.Flow.{Flow}
 use Rattle.flow.specs.declared.Port.the-variants.{East}
 use Rattle.flow.specs.Offsets.{ΔX, ΔY, portOf, sameClient, samePort}
-use Rattle.window.specs.declared.Conflict.{Conflict}
-use Rattle.window.specs.declared.Conflict.the-variants.{Free, Spread}
+use Rattle.conflict.specs.declared.Conflict.{Conflict}
+use Rattle.conflict.specs.declared.Conflict.the-variants.{Free, Spread}
 
 -- r = (y − ys of g) mod Sy, at f's source in row y
 abbrev pub rowsTo : ℕ → Flow → Flow → ℕ

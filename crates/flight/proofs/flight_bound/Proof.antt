@@ -2,9 +2,9 @@
 use borrow.Author.Needs.{needs}
 use Prim.Native.Nat.{_+_, _*_, _≤_}
 use native.Mathlib.Omega.{arith}
-use Rattle.window.proofs.Flight.{mostFlight, flight-most}
-use Rattle.window.proofs.flight_bound.Statement.{statement}
-use Rattle.window.proofs.flight_bound.Tie as tie
+use Rattle.flight.proofs.Flight.{mostFlight, flight-most}
+use Rattle.flight.proofs.flight_bound.Statement.{statement}
+use Rattle.flight.proofs.flight_bound.Tie as tie
 
 small : (c : tie.After-offset-y) → let dx = c .before .offset-x .result in let dy = c .offset-y .result in
     dx + dy + dy * c .before .before .args .sx + 2 ≤ mostFlight

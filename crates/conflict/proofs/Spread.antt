@@ -10,10 +10,10 @@ use Rattle.torus.proofs.Axis.{offset-below}
 use Rattle.flow.specs.declared.Flow.{Flow}
 use Rattle.flow.specs.Plan.{mostSize}
 use Rattle.flow.specs.Offsets.{ΔX, ΔY, sameClient}
-use Rattle.window.specs.declared.Conflict.{Conflict}
-use Rattle.window.specs.declared.Conflict.the-variants.{Free, Spread}
-use Rattle.window.specs.Conflict.{rowsTo, columnsTo, conflict, conflictEast, conflictSouth}
-use Rattle.window.specs.Rivals.{Pair, mostSpread}
+use Rattle.conflict.specs.declared.Conflict.{Conflict}
+use Rattle.conflict.specs.declared.Conflict.the-variants.{Free, Spread}
+use Rattle.conflict.specs.Conflict.{rowsTo, columnsTo, conflict, conflictEast, conflictSouth}
+use Rattle.conflict.specs.Inner.{Pair, mostSpread}
 
 -- r rows of the torus, a lap round the row for each
 pub laps-most : (r sx : ℕ) → r ≤ mostSize → sx ≤ mostSize → r * sx ≤ mostSpread

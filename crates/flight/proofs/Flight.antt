@@ -8,7 +8,7 @@ use Rattle.flow.specs.declared.Flow.{Flow}
 use Rattle.flow.specs.Offsets.{ΔY}
 use Rattle.flow.specs.Plan.{mostSize}
 use Rattle.flow.specs.Ranges.{FlowOk}
-use Rattle.window.specs.Flight.{travel, flight, flightOf, mostDeflections, flightBound}
+use Rattle.flight.specs.Flight.{travel, flight, flightOf, mostDeflections, flightBound}
 
 -- the flight of a packet that travels with D deflections, from every entry
 pub flight-of : (sx sy : ℕ) (f : Flow) (D entry : ℕ) → flight entry (entry + travel sx sy f D) ≡ flightOf sx sy f D

@@ -1,8 +1,8 @@
 -- `conflict_of`: same client, else by the port of f.
 use borrow.Author.Needs.{needs}
-use Rattle.window.specs.Conflict.{conflict}
-use Rattle.window.proofs.conflict_of.Statement.{statement}
-use Rattle.window.proofs.conflict_of.Tie as tie
+use Rattle.conflict.specs.Conflict.{conflict}
+use Rattle.conflict.proofs.conflict_of.Statement.{statement}
+use Rattle.conflict.proofs.conflict_of.Tie as tie
 
 returns : tie.Need-returns
 unfolding conflict

@@ -3,10 +3,10 @@ use Prim.Native.Nat.{_-_}
 use borrow.Author.Needs.{needs}
 use native.Mathlib.Omega.{arith}
 use Rattle.laws.proofs.Cases.{cases}
-use Rattle.window.specs.Conflict.{conflictEast}
-use Rattle.window.proofs.Spread.{laps-most, rows-most}
-use Rattle.window.proofs.conflict_east.Statement.{statement}
-use Rattle.window.proofs.conflict_east.Tie as tie
+use Rattle.conflict.specs.Conflict.{conflictEast}
+use Rattle.conflict.proofs.Spread.{laps-most, rows-most}
+use Rattle.conflict.proofs.conflict_east.Statement.{statement}
+use Rattle.conflict.proofs.conflict_east.Tie as tie
 
 returns : tie.Need-returns
 unfolding conflictEast

@@ -2,10 +2,10 @@
 use borrow.Author.Needs.{needs}
 use native.Mathlib.Omega.{arith}
 use Rattle.laws.proofs.Cases.{cases}
-use Rattle.window.specs.Conflict.{conflictSouth}
-use Rattle.window.proofs.Spread.{laps-most, rows-most}
-use Rattle.window.proofs.conflict_south.Statement.{statement}
-use Rattle.window.proofs.conflict_south.Tie as tie
+use Rattle.conflict.specs.Conflict.{conflictSouth}
+use Rattle.conflict.proofs.Spread.{laps-most, rows-most}
+use Rattle.conflict.proofs.conflict_south.Statement.{statement}
+use Rattle.conflict.proofs.conflict_south.Tie as tie
 
 returns : tie.Need-returns
 unfolding conflictSouth

@@ -1,0 +1,2 @@
+-- The laws of conflicts.
+pub mod Spread

@@ -1,0 +1,65 @@
+// How two flows conflict at the source of one of them. Rests on flow.
+use flow::Flow;
+use flow::Port;
+ghost use mathlib.Core.Path.{_≡_};
+ghost use Rattle.conflict.specs.Conflict.{conflict, conflictEast, conflictSouth};
+ghost use Rattle.conflict.specs.Inner.{Pair};
+
+// How a flow meets another at its source: not at all, or in conflict with the spread J.
+pub enum Conflict {
+    Free,
+    Spread(u32),
+}
+
+// f's port is E and g's client is another.
+fn conflict_east(sx: u32, sy: u32, f: Flow, g: Flow) -> Conflict
+    requires { ⌜ Pair sx sy f g ⌝ }
+    ensures { λ r. ⌜ r ≡ conflictEast sx sy f g ⌝ }
+{
+    let rows = torus::offset(sy, g.ys, f.ys);
+    if rows == 0 {
+        let columns = torus::offset(sx, g.xs, f.xs);
+        if columns < 1 {
+            return Conflict::Free;
+        }
+        if g.offset_x(sx) < columns {
+            return Conflict::Free;
+        }
+        return Conflict::Spread(0);
+    }
+    if g.offset_y(sy) < rows {
+        return Conflict::Free;
+    }
+    Conflict::Spread((rows - 1) * sx)
+}
+
+// f's port is S and g's client is another.
+fn conflict_south(sx: u32, sy: u32, f: Flow, g: Flow) -> Conflict
+    requires { ⌜ Pair sx sy f g ⌝ }
+    ensures { λ r. ⌜ r ≡ conflictSouth sx sy f g ⌝ }
+{
+    if g.xd != f.xs {
+        return Conflict::Free;
+    }
+    let rows = torus::offset(sy, g.ys, f.ys);
+    let dy = g.offset_y(sy);
+    if dy < rows {
+        return Conflict::Free;
+    }
+    Conflict::Spread(rows * sx)
+}
+
+// How g, a flow other than f, conflicts with f at f's source.
+pub fn conflict_of(sx: u32, sy: u32, f: Flow, g: Flow) -> Conflict
+    requires { ⌜ Pair sx sy f g ⌝ }
+    ensures { λ r. ⌜ r ≡ conflict sx sy f g ⌝ }
+{
+    if f.same_client(g) {
+        return Conflict::Spread(0);
+    }
+    let port = f.port(sx);
+    match port {
+        Port::East => conflict_east(sx, sy, f, g),
+        Port::South => conflict_south(sx, sy, f, g),
+    }
+}

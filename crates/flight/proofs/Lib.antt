@@ -1,0 +1,2 @@
+-- The laws of flights.
+pub mod Flight

@@ -1,0 +1,2 @@
+-- Flights, in 01's words.
+pub mod Flight
