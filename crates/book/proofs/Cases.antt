@@ -12,8 +12,8 @@ use Rattle.flow.specs.Plan.{Plan}
 use Rattle.bucket.specs.Regulator as Regulator
 use Rattle.bucket.specs.Curve as Curve
 use Rattle.plan.specs.declared.Answer.the-variants.{Refused}
-use Rattle.plan.specs.Bytes as Bytes
-use Rattle.plan.specs.Layout as Layout
+use Rattle.file.specs.Bytes as Bytes
+use Rattle.file.specs.Layout as Layout
 use Rattle.plan.specs.Refusals as Refusals
 use Rattle.plan.specs.Written as Written
 use Rattle.plan.specs.Written.{planBytes}

@@ -10,8 +10,8 @@ use lib.ListN.{length}
 use Rattle.laws.proofs.Cases.{test}
 use Rattle.plan.specs.declared.Answer.{Answer}
 use Rattle.plan.specs.declared.Answer.the-variants.{Done, Refused}
-use Rattle.plan.specs.declared.Trailer.{Trailer}
-use Rattle.plan.specs.Layout.{trailerOf, planOf}
+use Rattle.file.specs.declared.Trailer.{Trailer}
+use Rattle.file.specs.Layout.{trailerOf, planOf}
 use Rattle.plan.specs.Refusals.{refusedOr, planAnswer}
 use Rattle.plan.proofs.Refusals.{refused-done}
 use Rattle.bounds.specs.Bounds.{asked}

@@ -9,10 +9,10 @@ use Rattle.flow.specs.declared.Flow.{Flow}
 use Rattle.flow.specs.Plan.{onTorus, mostFlows}
 use Rattle.plan.specs.declared.Answer.{Answer}
 use Rattle.plan.specs.declared.Answer.the-variants.{Done, Refused}
-use Rattle.plan.specs.declared.Trailer.{Trailer}
+use Rattle.file.specs.declared.Trailer.{Trailer}
 use Rattle.plan.specs.Refusals as Refusals
 use Rattle.plan.specs.Refusals.{answerBy, refusedOr, sizeOk, headerNumber, trailerNumber, recordNumber, flowNumber, firstRefused, recordsAnswer, planAnswer}
-use Rattle.plan.specs.Layout.{mostFile, recordSize, trailerSize, tagged, trailerOf, planOf}
+use Rattle.file.specs.Layout.{mostFile, recordSize, trailerSize, tagged, trailerOf, planOf}
 use Rattle.window.specs.declared.Window.{Window}
 use Rattle.window.specs.declared.Window.the-variants.{At, Nothing}
 use Rattle.window.specs.Window.{windowOf}

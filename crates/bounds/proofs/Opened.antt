@@ -6,9 +6,9 @@ use native.Mathlib.Omega.{arith}
 use lib.ListN.{length}
 use Rattle.flow.specs.Plan.{flowAt, mostFlows}
 use Rattle.flow.specs.Ranges.{PlanOk}
-use Rattle.plan.specs.declared.Trailer.{Trailer}
-use Rattle.plan.specs.Layout as Layout
-use Rattle.plan.specs.Layout.{flowFrom, planOf, recordSize, trailerSize}
+use Rattle.file.specs.declared.Trailer.{Trailer}
+use Rattle.file.specs.Layout as Layout
+use Rattle.file.specs.Layout.{flowFrom, planOf, recordSize, trailerSize}
 use Rattle.plan.proofs.Accepted.{Trailed, done-trailed}
 use Rattle.plan.proofs.Ranges.{Bytes, plan-flow, plan-count, plan-ok}
 use Rattle.conflict.specs.Inner.{Pair}

@@ -4,8 +4,8 @@ use mathlib.Core.Path.{_≡_}
 use Prim.Native.Nat.{ℕ, _≤_, _<_}
 use Rattle.plan.specs.declared.Answer.{Answer}
 use Rattle.plan.specs.declared.Answer.the-variants.{Done, Refused}
-use Rattle.plan.specs.declared.Trailer.{Trailer}
-use Rattle.plan.specs.Layout.{trailerOf}
+use Rattle.file.specs.declared.Trailer.{Trailer}
+use Rattle.file.specs.Layout.{trailerOf}
 use Rattle.plan.specs.Refusals.{planAnswer}
 
 -- a file that reading accepts, with its trailer at hand

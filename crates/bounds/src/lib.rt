@@ -1,14 +1,14 @@
 // Bounds from a plan file: the window and the flight bound of a flow. Rests on plan and window.
+use file::Trailer;
 use flow::Flow;
 use plan::Answer;
-use plan::Trailer;
 use window::Window;
 ghost use mathlib.Core.Path.{_≡_};
 ghost use Prim.Native.Nat.{_+_, _*_, _≤_};
 ghost use lib.ListN.{length};
 ghost use Rattle.flow.specs.Plan.{flowAt};
 ghost use Rattle.plan.specs.declared.Answer.the-variants.{Done};
-ghost use Rattle.plan.specs.Layout.{planOf};
+ghost use Rattle.file.specs.Layout.{planOf};
 ghost use Rattle.window.specs.Window.{windowOf};
 ghost use Rattle.window.specs.Rivals.{rivalWords, RivalsAmong};
 ghost use Rattle.bounds.specs.Inner.{FlowInFile};
@@ -19,7 +19,7 @@ pub fn flow_at(file: &[u8], t: Trailer, f: u32) -> Flow
     requires { ⌜ FlowInFile (now file) t f ⌝ }
     ensures { λ r. ⌜ r ≡ flowAt (planOf (now (file .entry))) f ⌝ }
 {
-    plan::flow_from(file, (t.start as usize) + plan::RECORD_SIZE * (f as usize))
+    file::flow_from(file, (t.start as usize) + file::RECORD_SIZE * (f as usize))
 }
 
 // Flow g, after the n rivals of flow f among the flows before it.
@@ -88,7 +88,7 @@ fn ask(file: &[u8], f: u32) -> Answer
     match plan::plan_answer(file) {
         Answer::Refused { number, place } => Answer::Refused { number, place },
         Answer::Done(_) => {
-            let count = plan::trailer_of(file).count;
+            let count = file::trailer_of(file).count;
             if count <= f {
                 return Answer::Refused {
                     number: 12,
@@ -106,7 +106,7 @@ pub fn window(file: &[u8], f: u32) -> Answer
 {
     match ask(file, f) {
         Answer::Refused { number, place } => Answer::Refused { number, place },
-        Answer::Done(_) => match window_of(file, plan::trailer_of(file), f) {
+        Answer::Done(_) => match window_of(file, file::trailer_of(file), f) {
             Window::At(least) => Answer::Done(least),
             Window::Nothing => Answer::Refused {
                 number: 14,
@@ -122,6 +122,6 @@ pub fn flight_bound(file: &[u8], f: u32) -> Answer
 {
     match ask(file, f) {
         Answer::Refused { number, place } => Answer::Refused { number, place },
-        Answer::Done(_) => Answer::Done(flight_bound_of(file, plan::trailer_of(file), f)),
+        Answer::Done(_) => Answer::Done(flight_bound_of(file, file::trailer_of(file), f)),
     }
 }

@@ -10,8 +10,8 @@ use lib.ListN.{length}
 use Rattle.laws.proofs.Cases.{and-true, or-false, passed}
 use Rattle.flow.specs.Plan.{mostSize, mostFlows}
 use Rattle.flow.specs.Ranges.{SizeOk}
-use Rattle.plan.specs.declared.Trailer.{Trailer}
-use Rattle.plan.specs.Layout.{mostFile, trailerSize, recordSize, tagged, trailerOf}
+use Rattle.file.specs.declared.Trailer.{Trailer}
+use Rattle.file.specs.Layout.{mostFile, trailerSize, recordSize, tagged, trailerOf}
 use Rattle.plan.specs.declared.Answer.the-variants.{Done}
 use Rattle.plan.specs.Inner.{Framed}
 use Rattle.plan.specs.Refusals.{sizeOk, headerNumber, trailerNumber, answerBy, recordsAnswer, planAnswer}

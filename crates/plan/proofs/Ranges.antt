@@ -14,8 +14,8 @@ use Rattle.flow.proofs.Plan.{FlowOn, on-torus-facts}
 use Rattle.flow.specs.Plan.{flowAt, noFlow, onTorus}
 use Rattle.flow.specs.Ranges.{FlowOk, PlanOk}
 use Rattle.plan.specs.declared.Answer.the-variants.{Done}
-use Rattle.plan.specs.Bytes.{littleEndian2}
-use Rattle.plan.specs.Layout.{trailerOf, flowFrom, lastAt, recordAt, planOf}
+use Rattle.file.specs.Bytes.{littleEndian2}
+use Rattle.file.specs.Layout.{trailerOf, flowFrom, lastAt, recordAt, planOf}
 use Rattle.plan.specs.Refusals.{recordNumber, flowNumber, trailerNumber, answerBy, recordsAnswer, planAnswer}
 use Rattle.plan.proofs.Refusals.{or-else-done, first-done}
 use Rattle.plan.proofs.Accepted.{done-trailed}

@@ -15,8 +15,8 @@ use Rattle.laws.proofs.Parts.{drop-entries}
 use Rattle.flow.specs.declared.Flow.{Flow}
 use Rattle.flow.specs.Plan.{Plan}
 use Rattle.plan.specs.declared.Answer.the-variants.{Done}
-use Rattle.plan.specs.Bytes.{littleEndian2, littleEndian4, twoBytes, fourBytes}
-use Rattle.plan.specs.Layout.{tag, tagged, trailerOf, flowFrom, lastAt, planOf}
+use Rattle.file.specs.Bytes.{littleEndian2, littleEndian4, twoBytes, fourBytes}
+use Rattle.file.specs.Layout.{tag, tagged, trailerOf, flowFrom, lastAt, planOf}
 use Rattle.plan.specs.Refusals.{planAnswer}
 use Rattle.plan.specs.Notes.{notesOf}
 use Rattle.plan.specs.Written.{recordBytes, recordsBytes, trailerBytes, planBytes}

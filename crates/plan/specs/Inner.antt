@@ -3,8 +3,8 @@ use mathlib.Core.Path.{_≡_}
 use Prim.Native.Nat.{ℕ, _+_, _-_, _*_, _≤_}
 use Rattle.flow.specs.Plan.{mostFlows}
 use Rattle.flow.specs.Ranges.{SizeOk}
-use Rattle.plan.specs.declared.Trailer.{Trailer}
-use Rattle.plan.specs.Layout.{recordSize, trailerSize}
+use Rattle.file.specs.declared.Trailer.{Trailer}
+use Rattle.file.specs.Layout.{recordSize, trailerSize}
 
 -- a trailer that fits a file of the given length
 pub record Framed (t : Trailer) (len : ℕ) : Type 0 where

@@ -1,6 +1,4 @@
--- Plan files: layout, refusals and notes, in 01's words.
-pub mod Bytes
-pub mod Layout
+-- Plan files: refusals, notes and what is written, in 01's words.
 pub mod Refusals
 pub mod Notes
 pub mod Written

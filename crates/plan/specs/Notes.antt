@@ -4,7 +4,7 @@ use Prim.Native.Nat.{ℕ}
 use lib.ListN.{take}
 use Rattle.plan.specs.declared.Answer.{Answer}
 use Rattle.plan.specs.declared.Answer.the-variants.{Done, Refused}
-use Rattle.plan.specs.Layout.{trailerOf}
+use Rattle.file.specs.Layout.{trailerOf}
 use Rattle.plan.specs.Refusals.{planAnswer}
 
 abbrev pub notesBy : Answer → List ℕ → List ℕ

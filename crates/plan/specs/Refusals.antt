@@ -8,8 +8,8 @@ use Rattle.flow.specs.declared.Flow.{Flow}
 use Rattle.flow.specs.Plan.{onTorus, mostSize, mostFlows}
 use Rattle.plan.specs.declared.Answer.{Answer}
 use Rattle.plan.specs.declared.Answer.the-variants.{Done, Refused}
-use Rattle.plan.specs.declared.Trailer.{Trailer}
-use Rattle.plan.specs.Layout.{mostFile, trailerSize, recordSize, tagged, trailerOf, flowFrom, lastAt, recordAt}
+use Rattle.file.specs.declared.Trailer.{Trailer}
+use Rattle.file.specs.Layout.{mostFile, trailerSize, recordSize, tagged, trailerOf, flowFrom, lastAt, recordAt}
 
 -- an accepted call's 0 for number 0, or the refusal with its place
 abbrev pub answerBy : ℕ → ℕ → Answer

@@ -4,8 +4,8 @@ use Prim.Native.Nat.{ℕ}
 use lib.ListN.{length}
 use Rattle.flow.specs.declared.Flow.{Flow}
 use Rattle.flow.specs.Plan.{Plan}
-use Rattle.plan.specs.Bytes.{twoBytes, fourBytes}
-use Rattle.plan.specs.Layout.{tag}
+use Rattle.file.specs.Bytes.{twoBytes, fourBytes}
+use Rattle.file.specs.Layout.{tag}
 
 -- xs, ys, xd, yd, P, σ and a zero byte
 unfoldable pub recordBytes : Flow → List ℕ

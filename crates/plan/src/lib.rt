@@ -1,20 +1,14 @@
-// Plan files: the reader, its refusals 1 to 7, and the notes. Rests on laws and flow.
+// Plan files: the reader, its refusals 1 to 7, and the notes. Rests on file.
+use file::Trailer;
 use flow::Flow;
 ghost use mathlib.Core.Path.{_≡_};
 ghost use Prim.Native.Nat.{_+_, _*_, _<_, _≤_};
 ghost use lib.ListN.{length};
 ghost use Rattle.flow.specs.Plan.{mostFlows};
-ghost use Rattle.plan.specs.Bytes.{littleEndian2};
-ghost use Rattle.plan.specs.Layout.{trailerOf, flowFrom, lastAt, tagged, trailerSize, recordSize};
+ghost use Rattle.file.specs.Layout.{trailerSize, recordSize};
 ghost use Rattle.plan.specs.Refusals.{trailerNumber, headerNumber, sizeOk, recordNumber, recordsAnswer, planAnswer};
 ghost use Rattle.plan.specs.Notes.{notesOf};
 
-// A plan file has at most this many bytes.
-pub const MOST_FILE: usize = 65536;
-// The bytes of a flow's record.
-pub const RECORD_SIZE: usize = 8;
-// The bytes of the trailer.
-pub const TRAILER_SIZE: usize = 12;
 // A plan has at most this many flows.
 pub const MOST_FLOWS: u32 = 256;
 // A size of the torus is at most this.
@@ -24,73 +18,6 @@ pub const MOST_SIZE: u32 = 16;
 pub enum Answer {
     Done(u32),
     Refused { number: u32, place: u32 },
-}
-
-// A plan file's trailer before its tag.
-pub struct Trailer {
-    pub start: u32,
-    pub count: u32,
-    pub sx: u32,
-    pub sy: u32,
-}
-
-fn wide(b: u8) -> u32
-    ensures { λ r. ⌜ (r ≡ b) × (r < 256) ⌝ }
-{
-    b as u32
-}
-
-// The two bytes at a place as a number, the low one first.
-fn little_endian2(file: &[u8], at: usize) -> u32
-    requires { ⌜ at + 2 ≤ length (now file) ⌝ }
-    ensures { λ r. ⌜ (r ≡ littleEndian2 (now (file .entry)) at) × (r < 65536) ⌝ }
-{
-    wide(file[at]) + 256 * wide(file[at + 1])
-}
-
-pub fn trailer_of(file: &[u8]) -> Trailer
-    requires { ⌜ trailerSize ≤ length (now file) ⌝ }
-    ensures { λ r. ⌜ r ≡ trailerOf (now (file .entry)) ⌝ }
-{
-    let at = file.len() - TRAILER_SIZE;
-    let low = little_endian2(file, at);
-    let high = little_endian2(file, at + 2);
-    Trailer {
-        start: low + 65536 * high,
-        count: little_endian2(file, at + 4),
-        sx: wide(file[at + 6]),
-        sy: wide(file[at + 7]),
-    }
-}
-
-// The six plan numbers of the record at a place.
-pub fn flow_from(file: &[u8], at: usize) -> Flow
-    requires { ⌜ at + recordSize ≤ length (now file) ⌝ }
-    ensures { λ r. ⌜ r ≡ flowFrom (now (file .entry)) at ⌝ }
-{
-    Flow {
-        xs: wide(file[at]),
-        ys: wide(file[at + 1]),
-        xd: wide(file[at + 2]),
-        yd: wide(file[at + 3]),
-        period: little_endian2(file, at + 4),
-        burst: wide(file[at + 6]),
-    }
-}
-
-// The last four bytes are the tag.
-fn tagged(file: &[u8]) -> bool
-    requires { ⌜ trailerSize ≤ length (now file) ⌝ }
-    ensures { λ r. ⌜ r ≡ tagged (now (file .entry)) ⌝ }
-{
-    let tag = b"HRTP";
-    let at = file.len() - 4;
-    for k in 0..4 {
-        if file[at + k] != tag[k] {
-            return false;
-        }
-    }
-    true
 }
 
 // A size of the torus is 1..16.
@@ -120,7 +47,7 @@ fn header_number(t: Trailer, length: usize) -> u32
     if MOST_FLOWS < t.count {
         return 4;
     }
-    if (t.start as usize) + RECORD_SIZE * (t.count as usize) != length - TRAILER_SIZE {
+    if (t.start as usize) + file::RECORD_SIZE * (t.count as usize) != length - file::TRAILER_SIZE {
         return 5;
     }
     0
@@ -131,24 +58,16 @@ fn trailer_number(file: &[u8]) -> u32
     ensures { λ r. ⌜ r ≡ trailerNumber (now (file .entry)) ⌝ }
 {
     let length = file.len();
-    if length < TRAILER_SIZE {
+    if length < file::TRAILER_SIZE {
         return 1;
     }
-    if MOST_FILE < length {
+    if file::MOST_FILE < length {
         return 1;
     }
-    if !tagged(file) {
+    if !file::tagged(file) {
         return 2;
     }
-    header_number(trailer_of(file), length)
-}
-
-// The record's last byte.
-fn last_at(file: &[u8], at: usize) -> u32
-    requires { ⌜ at + recordSize ≤ length (now file) ⌝ }
-    ensures { λ r. ⌜ r ≡ lastAt (now (file .entry)) at ⌝ }
-{
-    wide(file[at + 7])
+    header_number(file::trailer_of(file), length)
 }
 
 // The refusal of a record with the given last byte, or 0.
@@ -179,8 +98,13 @@ fn records_answer(file: &[u8], t: Trailer) -> Answer
     let start = t.start as usize;
     let count = t.count;
     for f in 0..count {
-        let at = start + RECORD_SIZE * (f as usize);
-        let number = record_number(t.sx, t.sy, flow_from(file, at), last_at(file, at));
+        let at = start + file::RECORD_SIZE * (f as usize);
+        let number = record_number(
+            t.sx,
+            t.sy,
+            file::flow_from(file, at),
+            file::last_at(file, at),
+        );
         if number != 0 {
             return Answer::Refused { number, place: f };
         }
@@ -196,7 +120,7 @@ pub fn plan_answer(file: &[u8]) -> Answer
     if number != 0 {
         return Answer::Refused { number, place: 0 };
     }
-    records_answer(file, trailer_of(file))
+    records_answer(file, file::trailer_of(file))
 }
 
 // The notes of a plan file as the leading part of the file; on a refusal that part is empty.
@@ -205,7 +129,7 @@ pub fn notes(file: &[u8]) -> &[u8]
 {
     match plan_answer(file) {
         Answer::Done(_) => {
-            let start = trailer_of(file).start as usize;
+            let start = file::trailer_of(file).start as usize;
             &file[..start]
         }
         Answer::Refused {

@@ -13,7 +13,7 @@ use Rattle.flow.specs.Ranges.{PlanOk}
 use Rattle.bucket.proofs.Regulator.{full-fits}
 use Rattle.plan.specs.declared.Answer.{Answer}
 use Rattle.plan.specs.declared.Answer.the-variants.{Done, Refused}
-use Rattle.plan.specs.Layout.{planOf}
+use Rattle.file.specs.Layout.{planOf}
 use Rattle.plan.specs.Refusals.{planAnswer}
 use Rattle.plan.proofs.Refusals.{refused-done}
 use Rattle.plan.proofs.Ranges.{Bytes, plan-ok}

@@ -15,7 +15,7 @@ use Rattle.flow.specs.Plan.{Plan, flowAt, noFlow}
 use Rattle.plan.specs.declared.Answer.the-variants.{Done}
 use Rattle.plan.specs.Refusals.{trailerNumber, answerBy, recordsAnswer, planAnswer}
 use Rattle.plan.proofs.Refusals.{or-else-done, answer-done}
-use Rattle.plan.specs.Layout.{trailerOf, flowFrom, recordAt, planOf}
+use Rattle.file.specs.Layout.{trailerOf, flowFrom, recordAt, planOf}
 use Rattle.state.specs.Layout.{headerSize, flowSize, routerSize, flowPlace, stateSize, planSize}
 use Rattle.state.specs.State.{tallyAt, cellAt, freshTally, emptyCell, resetState}
 use Rattle.state.specs.Words.{headerWords, cellWords, stateWords}

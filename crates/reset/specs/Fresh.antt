@@ -3,7 +3,7 @@ use mathlib.Core.List.{List}
 use Prim.Native.Nat.{ℕ, _+_, _*_}
 use Rattle.laws.specs.Count.{joinBelow}
 use Rattle.flow.specs.declared.Flow.{Flow}
-use Rattle.plan.specs.Layout.{recordSize, flowFrom}
+use Rattle.file.specs.Layout.{recordSize, flowFrom}
 use Rattle.state.specs.State.{freshTally}
 use Rattle.state.specs.Words.{flowWords}
 

@@ -1,8 +1,8 @@
 // Reset: from a plan file to a state. Rests on plan and state.
 use bucket::Bucket;
+use file::Trailer;
 use flow::Flow;
 use plan::Answer;
-use plan::Trailer;
 use state::Tally;
 ghost use mathlib.Core.List.{[], _∷_};
 ghost use mathlib.Core.Path.{_≡_};
@@ -11,7 +11,7 @@ ghost use lib.ListN.{length};
 ghost use lib.Seq.{sets};
 ghost use Rattle.laws.specs.Count.{joinBelow};
 ghost use Rattle.flow.specs.Plan.{mostFlows};
-ghost use Rattle.plan.specs.Layout.{recordSize, trailerOf, planOf};
+ghost use Rattle.file.specs.Layout.{recordSize, trailerOf, planOf};
 ghost use Rattle.plan.specs.Refusals.{trailerNumber};
 ghost use Rattle.plan.specs.Inner.{Framed};
 ghost use Rattle.state.specs.Layout.{headerSize, flowSize, routerSize, flowPlace, stateSize};
@@ -58,7 +58,7 @@ fn put_flows(file: &[u8], start: usize, count: usize, w: &mut [u32])
         put_flow(
             w,
             state::flow_place(f),
-            plan::flow_from(file, start + plan::RECORD_SIZE * f),
+            file::flow_from(file, start + file::RECORD_SIZE * f),
         );
     }
 }
@@ -98,7 +98,7 @@ fn reset_accepted(file: &[u8], w: &mut [u32]) -> Answer
     requires { ⌜ trailerNumber (now file) ≡ 0 ⌝ }
     ensures { λ r. ⌜ outcome r (now (w .exit)) ≡ freshOn (planOf (now (file .entry))) (now (w .entry)) ⌝ }
 {
-    let t = plan::trailer_of(file);
+    let t = file::trailer_of(file);
     if w.len() < state::size(t.count as usize, t.sx, t.sy) {
         return Answer::Refused {
             number: 8,

@@ -14,7 +14,7 @@ use Rattle.flow.specs.declared.Flow.{Flow}
 use Rattle.flow.specs.Plan.{Plan, flowAt}
 use Rattle.plan.specs.declared.Answer.{Answer}
 use Rattle.plan.specs.declared.Answer.the-variants.{Done}
-use Rattle.plan.specs.Layout.{planOf}
+use Rattle.file.specs.Layout.{planOf}
 use Rattle.plan.proofs.Refusals.{refused-done}
 use Rattle.plan.proofs.Ranges.{Bytes, plan-ok}
 use Rattle.flight.specs.Flight.{flight, flightOf, flightBound, mostDeflections}

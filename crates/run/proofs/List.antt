@@ -14,7 +14,7 @@ use Rattle.flow.specs.Ranges.{PlanOk}
 use Rattle.flow.specs.Limits.{exitSize}
 use Rattle.plan.specs.declared.Answer.{Answer}
 use Rattle.plan.specs.declared.Answer.the-variants.{Done, Refused}
-use Rattle.plan.specs.Layout.{planOf}
+use Rattle.file.specs.Layout.{planOf}
 use Rattle.plan.proofs.Ranges.{plan-ok}
 use Rattle.book.specs.Book.{Book, start}
 use Rattle.router.specs.Delivery.{wordsOf}

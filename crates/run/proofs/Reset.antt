@@ -8,7 +8,7 @@ use lib.ListN.{length}
 use Rattle.laws.proofs.Cases.{test}
 use Rattle.plan.specs.declared.Answer.{Answer}
 use Rattle.plan.specs.declared.Answer.the-variants.{Done, Refused}
-use Rattle.plan.specs.Layout.{planOf}
+use Rattle.file.specs.Layout.{planOf}
 use Rattle.plan.specs.Refusals.{planAnswer}
 use Rattle.state.specs.Outcome.{unlessRefused}
 use Rattle.state.specs.Layout.{planSize}

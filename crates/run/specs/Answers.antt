@@ -7,7 +7,7 @@ use Prim.Native.Nat.{ℕ, _+_, _-_, _≤_, _<_}
 use lib.ListN.{length}
 use Rattle.flow.specs.Plan.{flowAt}
 use Rattle.plan.specs.declared.Answer.the-variants.{Done}
-use Rattle.plan.specs.Layout.{planOf}
+use Rattle.file.specs.Layout.{planOf}
 use Rattle.plan.specs.Notes.{notesOf}
 use Rattle.window.specs.Window.{loneWait}
 use Rattle.flight.specs.Flight.{flight}

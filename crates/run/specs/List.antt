@@ -11,7 +11,7 @@ use lib.ListN.{length, getD, take, drop}
 use Rattle.flow.specs.Plan.{Plan}
 use Rattle.plan.specs.declared.Answer.{Answer}
 use Rattle.plan.specs.declared.Answer.the-variants.{Done}
-use Rattle.plan.specs.Layout.{planOf}
+use Rattle.file.specs.Layout.{planOf}
 use Rattle.plan.specs.Written.{planBytes}
 use Rattle.book.specs.Book.{Book, start}
 use Rattle.router.specs.Delivery.{wordsOf}

@@ -6,7 +6,7 @@ use lib.Dec.{ltb}
 use lib.ListN.{length}
 use Rattle.plan.specs.declared.Answer.{Answer}
 use Rattle.plan.specs.declared.Answer.the-variants.{Done}
-use Rattle.plan.specs.Layout.{mostFile}
+use Rattle.file.specs.Layout.{mostFile}
 use Rattle.plan.specs.Written.{planBytes}
 use Rattle.state.specs.Read.{planIn}
 use Rattle.state.specs.Forms.{stateNumber}

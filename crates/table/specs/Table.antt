@@ -10,7 +10,7 @@ use Rattle.flow.specs.Offsets.{portOf}
 use Rattle.flow.specs.Plan.{Plan, flowAt}
 use Rattle.plan.specs.declared.Answer.{Answer}
 use Rattle.plan.specs.declared.Answer.the-variants.{Done, Refused}
-use Rattle.plan.specs.Layout.{planOf}
+use Rattle.file.specs.Layout.{planOf}
 use Rattle.plan.specs.Refusals.{planAnswer}
 use Rattle.window.specs.declared.Window.{Window}
 use Rattle.window.specs.declared.Window.the-variants.{At, Nothing}

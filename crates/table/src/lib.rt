@@ -1,15 +1,15 @@
 // The table of a plan file as text in lent memory. Rests on bounds.
+use file::Trailer;
 use flow::Flow;
 use flow::Port;
 use plan::Answer;
-use plan::Trailer;
 use window::Window;
 ghost use mathlib.Core.List.{_∷_, []};
 ghost use Prim.Native.Nat.{_+_, _*_, _<_, _≤_};
 ghost use lib.ListN.{length};
 ghost use Rattle.laws.specs.Count.{joinBelow};
 ghost use Rattle.laws.specs.Written.{Wrote};
-ghost use Rattle.plan.specs.Layout.{planOf};
+ghost use Rattle.file.specs.Layout.{planOf};
 ghost use Rattle.window.specs.Window.{loneWait};
 ghost use Rattle.bounds.specs.Inner.{Opened, FlowInFile};
 ghost use Rattle.table.specs.Decimal.{decimal};
@@ -167,7 +167,7 @@ pub fn write(file: &[u8], out: &mut [u8]) -> usize
         Answer::Refused { number, place } => put_refused(out, 0, number, place),
         Answer::Done(_) => {
             let next = put_text(out, 0, b"flow port window flight wait\n");
-            put_lines(file, plan::trailer_of(file), out, next)
+            put_lines(file, file::trailer_of(file), out, next)
         }
     }
 }

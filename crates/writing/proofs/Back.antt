@@ -5,7 +5,7 @@ use Prim.Native.Nat.{ℕ, _≤_}
 use borrow.Author.Tests.{le-ltb}
 use lib.ListN.{length}
 use Rattle.plan.specs.declared.Answer.the-variants.{Done}
-use Rattle.plan.specs.Layout.{mostFile, planOf}
+use Rattle.file.specs.Layout.{mostFile, planOf}
 use Rattle.plan.specs.Refusals.{planAnswer}
 use Rattle.plan.specs.Notes.{notesOf}
 use Rattle.plan.proofs.Accepted.{done-trailed}

@@ -9,8 +9,8 @@ use Rattle.laws.proofs.Stands.{sets-append}
 use Rattle.flow.specs.declared.Flow.{Flow}
 use Rattle.flow.specs.Plan.{mostSize}
 use Rattle.flow.specs.Ranges.{FlowOk}
-use Rattle.plan.specs.Layout.{tag}
-use Rattle.plan.specs.Bytes.{twoBytes, fourBytes}
+use Rattle.file.specs.Layout.{tag}
+use Rattle.file.specs.Bytes.{twoBytes, fourBytes}
 use Rattle.plan.specs.Written.{recordBytes}
 
 byte : (n : ℕ) → n < 256 → n % 256 ≡ n

@@ -14,8 +14,8 @@ use Rattle.flow.specs.declared.Flow.{Flow}
 use Rattle.flow.specs.Plan.{mostSize}
 use Rattle.flow.specs.Ranges.{FlowOk}
 use Rattle.plan.specs.declared.Answer.the-variants.{Done}
-use Rattle.plan.specs.Layout.{recordSize, trailerSize, mostFile}
-use Rattle.plan.specs.Bytes.{twoBytes, fourBytes}
+use Rattle.file.specs.Layout.{recordSize, trailerSize, mostFile}
+use Rattle.file.specs.Bytes.{twoBytes, fourBytes}
 use Rattle.plan.specs.Written.{recordBytes, recordsBytes, trailerBytes, planBytes}
 use Rattle.plan.proofs.Written.{records-append}
 use Rattle.state.specs.Layout.{flowPlace}

@@ -3,8 +3,8 @@ use mathlib.Core.List.{List, [], _∷_, _++_}
 use Prim.Native.Nat.{ℕ, _+_, _*_}
 use lib.ListN.{length}
 use Rattle.laws.specs.Count.{joinBelow}
-use Rattle.plan.specs.Layout.{recordSize, trailerSize, tag}
-use Rattle.plan.specs.Bytes.{twoBytes, fourBytes}
+use Rattle.file.specs.Layout.{recordSize, trailerSize, tag}
+use Rattle.file.specs.Bytes.{twoBytes, fourBytes}
 use Rattle.plan.specs.Written.{recordBytes}
 use Rattle.state.specs.Layout.{flowPlace}
 use Rattle.state.specs.Read.{countIn, flowIn}

@@ -8,8 +8,8 @@ ghost use lib.ListN.{length};
 ghost use lib.Seq.{sets};
 ghost use Rattle.flow.specs.Plan.{mostSize};
 ghost use Rattle.flow.specs.Ranges.{FlowOk};
-ghost use Rattle.plan.specs.Layout.{recordSize, trailerSize, tag, mostFile};
-ghost use Rattle.plan.specs.Bytes.{twoBytes, fourBytes};
+ghost use Rattle.file.specs.Layout.{recordSize, trailerSize, tag, mostFile};
+ghost use Rattle.file.specs.Bytes.{twoBytes, fourBytes};
 ghost use Rattle.plan.specs.Written.{recordBytes, planBytes};
 ghost use Rattle.state.specs.Read.{countIn, planIn};
 ghost use Rattle.state.specs.Outcome.{outcome, over};
@@ -50,7 +50,7 @@ fn put_records(state: &[u32], count: usize, target: &mut [u8], start: usize)
     for f in 0..count {
         put_record(
             target,
-            start + plan::RECORD_SIZE * f,
+            start + file::RECORD_SIZE * f,
             state::flow_in(state, state::flow_place(f)),
         );
     }
@@ -122,7 +122,7 @@ fn put_file(state: &[u32], notes: &[u8], target: &mut [u8])
     let flows = state[state::FLOWS];
     let count = flows as usize;
     let start = notes.len();
-    let at = start + plan::RECORD_SIZE * count;
+    let at = start + file::RECORD_SIZE * count;
     put_notes(notes, target);
     put_records(state, count, target, start);
     put_trailer(
@@ -142,13 +142,13 @@ fn write_accepted(state: &[u32], notes: &[u8], target: &mut [u8]) -> Answer
 {
     let count = state[state::FLOWS] as usize;
     let start = notes.len();
-    if MOST_BODY - plan::RECORD_SIZE * count < start {
+    if MOST_BODY - file::RECORD_SIZE * count < start {
         return Answer::Refused {
             number: 1,
             place: 0,
         };
     }
-    let size = start + plan::RECORD_SIZE * count + plan::TRAILER_SIZE;
+    let size = start + file::RECORD_SIZE * count + file::TRAILER_SIZE;
     if target.len() < size {
         return Answer::Refused {
             number: 15,

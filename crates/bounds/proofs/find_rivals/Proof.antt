@@ -3,7 +3,7 @@ use mathlib.Core.Path.{_≡_, _∙_}
 use Prim.Native.Nat.{_-_, _≤_}
 use native.Mathlib.Omega.{arith}
 use lib.ListN.{length}
-use Rattle.plan.specs.Layout.{planOf}
+use Rattle.file.specs.Layout.{planOf}
 use Rattle.window.specs.Rivals.{RivalsAmong}
 use Rattle.window.proofs.Gathered.{among-none}
 use Rattle.bounds.proofs.Opened.{opened-count}

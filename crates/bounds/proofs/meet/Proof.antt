@@ -3,7 +3,7 @@ use borrow.Author.Needs.{needs}
 use mathlib.Core.Path.{_≡_, _∙_}
 use native.Mathlib.Omega.{arith}
 use Rattle.flow.specs.Plan.{flowAt}
-use Rattle.plan.specs.Layout.{planOf}
+use Rattle.file.specs.Layout.{planOf}
 use Rattle.plan.proofs.Ranges.{Bytes}
 use Rattle.conflict.specs.Conflict.{conflict}
 use Rattle.window.specs.Rivals.{gathered}

@@ -5,7 +5,7 @@ use borrow.Author.Needs.{needs}
 use lib.Dec.{ltb}
 use lib.ListN.{length}
 use Rattle.laws.proofs.Cases.{cases, told-not, told-not′}
-use Rattle.plan.specs.Layout.{trailerSize, mostFile}
+use Rattle.file.specs.Layout.{trailerSize, mostFile}
 use Rattle.plan.specs.Refusals.{trailerNumber}
 use Rattle.plan.proofs.trailer_number.Statement.{statement}
 use Rattle.plan.proofs.trailer_number.Tie as tie

@@ -6,7 +6,7 @@ use lib.ListN.{length}
 use lib.Seq.{sets}
 use Rattle.laws.specs.Count.{joinBelow}
 use Rattle.laws.proofs.Stands.{sets-more}
-use Rattle.plan.specs.Layout.{recordSize, flowFrom}
+use Rattle.file.specs.Layout.{recordSize, flowFrom}
 use Rattle.state.specs.Layout.{headerSize, flowSize}
 use Rattle.reset.specs.Fresh.{freshWords}
 use Rattle.reset.proofs.put_flows.Statement.{statement}

@@ -4,7 +4,7 @@ use mathlib.Core.Path.{_≡_, sym, _∙_}
 use native.Mathlib.Omega.{arith}
 use Rattle.flow.specs.Plan.{flowAt}
 use Rattle.flow.specs.Ranges.{FlowOk}
-use Rattle.plan.specs.Layout.{planOf}
+use Rattle.file.specs.Layout.{planOf}
 use Rattle.plan.proofs.Ranges.{Bytes}
 use Rattle.bounds.proofs.Opened.{opened-ok, opened-count, opened-sx}
 use Rattle.table.specs.Table.{row, line}

@@ -6,7 +6,7 @@ use native.Mathlib.Omega.{arith}
 use Rattle.laws.specs.Count.{joinBelow}
 use Rattle.laws.specs.Written.{Wrote}
 use Rattle.laws.proofs.Written.{wrote-none, wrote-then, wrote-length}
-use Rattle.plan.specs.Layout.{planOf}
+use Rattle.file.specs.Layout.{planOf}
 use Rattle.table.specs.Table.{line}
 use Rattle.table.specs.Inner.{mostLine}
 use Rattle.table.proofs.put_lines.Statement.{statement}

@@ -6,7 +6,7 @@ use native.Mathlib.Omega.{arith}
 use lib.ListN.{length}
 use lib.Seq.{sets}
 use Rattle.laws.proofs.Stands.{sets-more}
-use Rattle.plan.specs.Layout.{recordSize}
+use Rattle.file.specs.Layout.{recordSize}
 use Rattle.plan.specs.Written.{recordBytes}
 use Rattle.state.specs.Layout.{flowPlace}
 use Rattle.state.specs.Read.{countIn, flowIn}

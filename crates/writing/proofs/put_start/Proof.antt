@@ -1,6 +1,6 @@
 -- `put_start`: four bytes, the low one first.
 use borrow.Author.Needs.{needs}
-use Rattle.plan.specs.Bytes.{twoBytes, fourBytes}
+use Rattle.file.specs.Bytes.{twoBytes, fourBytes}
 use Rattle.writing.proofs.put_start.Statement.{statement}
 use Rattle.writing.proofs.put_start.Tie as tie
 

@@ -4,7 +4,7 @@ use native.Mathlib.Omega.{arith}
 use borrow.Author.Needs.{needs}
 use borrow.Author.Tests.{lt-ltb, le-ltb}
 use lib.ListN.{length}
-use Rattle.plan.specs.Layout.{mostFile}
+use Rattle.file.specs.Layout.{mostFile}
 use Rattle.plan.specs.Written.{planBytes}
 use Rattle.state.specs.Read.{planIn}
 use Rattle.writing.specs.Parts.{fileSize}

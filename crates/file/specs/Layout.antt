@@ -7,8 +7,8 @@ use lib.ListN.{length, getD}
 use Rattle.laws.specs.Bounded.{allBelow, tabulate}
 use Rattle.flow.specs.declared.Flow.{Flow}
 use Rattle.flow.specs.Plan.{Plan, flow}
-use Rattle.plan.specs.declared.Trailer.{Trailer}
-use Rattle.plan.specs.Bytes.{littleEndian2, littleEndian4}
+use Rattle.file.specs.declared.Trailer.{Trailer}
+use Rattle.file.specs.Bytes.{littleEndian2, littleEndian4}
 
 -- a plan file has at most 65,536 bytes
 abbrev pub mostFile : ℕ

@@ -1,8 +1,8 @@
 -- `little_endian2`: both bytes are below 256, so that the number fits.
 use borrow.Author.Needs.{needs}
-use Rattle.plan.specs.Bytes.{littleEndian2}
-use Rattle.plan.proofs.little_endian2.Statement.{statement}
-use Rattle.plan.proofs.little_endian2.Tie as tie
+use Rattle.file.specs.Bytes.{littleEndian2}
+use Rattle.file.proofs.little_endian2.Statement.{statement}
+use Rattle.file.proofs.little_endian2.Tie as tie
 
 returns : tie.Need-returns
 unfolding littleEndian2

@@ -1,8 +1,8 @@
 -- `flow_from`: field by field, what the bytes' readers ensure.
 use borrow.Author.Needs.{needs}
-use Rattle.plan.specs.Layout.{flowFrom}
-use Rattle.plan.proofs.flow_from.Statement.{statement}
-use Rattle.plan.proofs.flow_from.Tie as tie
+use Rattle.file.specs.Layout.{flowFrom}
+use Rattle.file.proofs.flow_from.Statement.{statement}
+use Rattle.file.proofs.flow_from.Tie as tie
 
 returns : tie.Need-returns
 unfolding flowFrom

@@ -1,10 +1,10 @@
 -- `trailer_of`: field by field, what the bytes' readers ensure.
 use borrow.Author.Needs.{needs}
 use Prim.Native.Nat.{_+_, _*_}
-use Rattle.plan.specs.Bytes.{littleEndian4}
-use Rattle.plan.specs.Layout.{trailerOf}
-use Rattle.plan.proofs.trailer_of.Statement.{statement}
-use Rattle.plan.proofs.trailer_of.Tie as tie
+use Rattle.file.specs.Bytes.{littleEndian4}
+use Rattle.file.specs.Layout.{trailerOf}
+use Rattle.file.proofs.trailer_of.Statement.{statement}
+use Rattle.file.proofs.trailer_of.Tie as tie
 
 returns : tie.Need-returns
 unfolding trailerOf littleEndian4

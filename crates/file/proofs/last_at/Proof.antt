@@ -1,8 +1,8 @@
 -- `last_at`: the byte that is read.
 use borrow.Author.Needs.{needs}
-use Rattle.plan.specs.Layout.{lastAt}
-use Rattle.plan.proofs.last_at.Statement.{statement}
-use Rattle.plan.proofs.last_at.Tie as tie
+use Rattle.file.specs.Layout.{lastAt}
+use Rattle.file.proofs.last_at.Statement.{statement}
+use Rattle.file.proofs.last_at.Tie as tie
 
 returns : tie.Need-returns
 unfolding lastAt

@@ -8,10 +8,10 @@ use lib.ListN.{length, getD}
 use mathlib.Core.Bool.{true}
 use Rattle.laws.specs.Bounded.{allBelow}
 use Rattle.laws.proofs.Bounded.{all-none, all-more, all-fails}
-use Rattle.plan.specs.Layout as Spec
-use Rattle.plan.specs.Layout.{tagged}
-use Rattle.plan.proofs.tagged.Statement.{statement}
-use Rattle.plan.proofs.tagged.Tie as tie
+use Rattle.file.specs.Layout as Spec
+use Rattle.file.specs.Layout.{tagged}
+use Rattle.file.proofs.tagged.Statement.{statement}
+use Rattle.file.proofs.tagged.Tie as tie
 
 abbrev Inv-loop : tie.InvT-loop
 Inv-loop file tag at k₀ k =
