@@ -1,8 +1,8 @@
 -- `register_fits`: by the register that is read from the words.
 use Rattle.state.specs.Forms.{registerFits}
 use borrow.Author.Needs.{needs}
-use Rattle.valid.proofs.register_fits.Statement.{statement}
-use Rattle.valid.proofs.register_fits.Tie as tie
+use Rattle.registers.proofs.register_fits.Statement.{statement}
+use Rattle.registers.proofs.register_fits.Tie as tie
 
 returns : tie.Need-returns
 unfolding registerFits

@@ -9,8 +9,8 @@ use Rattle.laws.proofs.Cases.{told-not, told-not′}
 use Rattle.laws.proofs.Bounded.{all-none, all-more, all-fails}
 use Rattle.state.specs.Read.{sxIn}
 use Rattle.state.specs.Forms.{cellFits}
-use Rattle.valid.proofs.row_fits.Statement.{statement}
-use Rattle.valid.proofs.row_fits.Tie as tie
+use Rattle.registers.proofs.row_fits.Statement.{statement}
+use Rattle.registers.proofs.row_fits.Tie as tie
 
 abbrev Inv-loop : tie.InvT-loop
 Inv-loop w y sx x₀ x = (x ≤ sx) × ((sx ≡ sxIn w) × (allBelow x (λ x. cellFits w x y) ≡ true))

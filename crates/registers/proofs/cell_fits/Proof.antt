@@ -8,8 +8,8 @@ use Rattle.state.specs.Read.{sxIn, syIn, countIn}
 use Rattle.state.specs.Forms.{cellFits}
 use Rattle.state.proofs.Words.{router-below}
 use borrow.Author.Needs.{needs}
-use Rattle.valid.proofs.cell_fits.Statement.{statement}
-use Rattle.valid.proofs.cell_fits.Tie as tie
+use Rattle.registers.proofs.cell_fits.Statement.{statement}
+use Rattle.registers.proofs.cell_fits.Tie as tie
 
 -- the router's registers lie within the words
 room : (c : tie.After-router-place) → c .router-place .result + routerSize ≤ length (c .before .before .before .before .args .w .now)

@@ -9,8 +9,8 @@ use Rattle.laws.proofs.Cases.{told-not, told-not′}
 use Rattle.laws.proofs.Bounded.{all-none, all-more, all-fails}
 use Rattle.state.specs.Read.{sxIn, syIn}
 use Rattle.state.specs.Forms.{cellFits}
-use Rattle.valid.proofs.rows_fit.Statement.{statement}
-use Rattle.valid.proofs.rows_fit.Tie as tie
+use Rattle.registers.proofs.rows_fit.Statement.{statement}
+use Rattle.registers.proofs.rows_fit.Tie as tie
 
 abbrev Inv-loop : tie.InvT-loop
 Inv-loop w sy y₀ y = (y ≤ sy) × ((sy ≡ syIn w) × (allBelow y (λ y. allBelow (sxIn w) (λ x. cellFits w x y)) ≡ true))

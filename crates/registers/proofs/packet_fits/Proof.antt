@@ -3,8 +3,8 @@ use native.Mathlib.Omega.{arith}
 use borrow.Author.Needs.{needs}
 use borrow.Author.Tests.{lt-ltb, le-ltb}
 use Rattle.laws.proofs.Cases.{told-not, told-not′}
-use Rattle.valid.proofs.packet_fits.Statement.{statement}
-use Rattle.valid.proofs.packet_fits.Tie as tie
+use Rattle.registers.proofs.packet_fits.Statement.{statement}
+use Rattle.registers.proofs.packet_fits.Tie as tie
 
 returns : tie.Need-returns
 returns c = rw (le-ltb _ _ (c .if1 .taken))

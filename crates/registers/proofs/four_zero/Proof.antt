@@ -9,8 +9,8 @@ use borrow.Author.Tests.{ne-eqb}
 use lib.Bits.{bitOr, or-zero-l, or-add-and, and-le-r}
 use lib.Dec.{eqb}
 use Rattle.laws.specs.Bounded.{allBelow}
-use Rattle.valid.proofs.four_zero.Statement.{statement}
-use Rattle.valid.proofs.four_zero.Tie as tie
+use Rattle.registers.proofs.four_zero.Statement.{statement}
+use Rattle.registers.proofs.four_zero.Tie as tie
 
 or-none : (a b : ℕ) → eqb (bitOr a b) 0 ≡ eqb a 0 && eqb b 0
 or-none zero b = rw (or-zero-l b)

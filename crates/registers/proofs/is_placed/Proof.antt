@@ -1,8 +1,8 @@
 -- `is_placed`: the definition's own tests; the flow's numbers lie in their ranges.
 use borrow.Author.Needs.{needs}
 use borrow.Author.Tests.{lt-ltb, le-ltb}
-use Rattle.valid.proofs.is_placed.Statement.{statement}
-use Rattle.valid.proofs.is_placed.Tie as tie
+use Rattle.registers.proofs.is_placed.Statement.{statement}
+use Rattle.registers.proofs.is_placed.Tie as tie
 
 returns : tie.Need-returns
 returns c = rw (le-ltb _ _ (c .if1 .taken))
