@@ -1,372 +1,242 @@
-// The cases of 01 that are run: each line says what was asked and what was answered, and stdout has what it must be.
-mod files;
+// 01's cases, as a script on standard input: each line is written again, with its answer behind it.
+mod line;
 
+use libc::STDIN_FILENO;
 use libc::STDOUT_FILENO;
 use plan::Answer;
+ghost use Prim.Native.Nat.{_≤_, _<_};
+ghost use lib.ListN.{length};
 
-fn text(words: &[u8]) {
-    io::write_all(STDOUT_FILENO, words);
+// The words, as their letters' bytes: #, read, window, flight, reset, offer, step, write, word, byte.
+const NOTE: u64 = 0x23;
+
+const READ: u64 = 0x72656164;
+
+const WINDOW: u64 = 0x77696e646f77;
+
+const FLIGHT: u64 = 0x666c69676874;
+
+const RESET: u64 = 0x7265736574;
+
+const OFFER: u64 = 0x6f66666572;
+
+const STEP: u64 = 0x73746570;
+
+const WRITE: u64 = 0x7772697465;
+
+const WORD: u64 = 0x776f7264;
+
+const BYTE: u64 = 0x62797465;
+
+// What is written: a byte, a number with a space before it, a refusal, an answer behind a colon.
+fn mark(b: u8) {
+    let one = [b];
+    io::write_all(STDOUT_FILENO, &one);
 }
 
 fn number(n: u32) {
+    mark(b' ');
     io::print_decimal(STDOUT_FILENO, n as u64);
 }
 
-// A line: what was asked, and the answer.
-fn told(asked: &[u8], answer: Answer) {
-    text(asked);
+fn refused(n: u32, place: u32) {
+    io::write_all(STDOUT_FILENO, b" refused");
+    number(n);
+    number(place);
+}
+
+// A line's end. A note has no answer.
+fn tell_line(word: u64, answer: Answer) {
+    if word != NOTE {
+        tell(answer);
+    }
+    mark(b'\n');
+}
+
+fn tell(answer: Answer) {
+    mark(b':');
     match answer {
-        Answer::Done(value) => {
-            text(b": ");
-            number(value);
-        }
-        Answer::Refused { number: n, place } => {
-            text(b": refused ");
-            number(n);
-            text(b" ");
-            number(place);
-        }
-    }
-    text(b"\n");
-}
-
-// A line with the first five words of a delivery memory.
-fn delivered(asked: &[u8], delivery: &[u32]) {
-    if delivery.len() < 5 {
-        return;
-    }
-    text(asked);
-    text(b": ");
-    number(delivery[0]);
-    text(b" ");
-    number(delivery[1]);
-    text(b" ");
-    number(delivery[2]);
-    text(b" ");
-    number(delivery[3]);
-    text(b" ");
-    number(delivery[4]);
-    text(b"\n");
-}
-
-// A word of the state is changed.
-fn put(words: &mut [u32], at: usize, value: u32) {
-    if at < words.len() {
-        words[at] = value;
+        Answer::Done(value) => number(value),
+        Answer::Refused { number: n, place } => refused(n, place),
     }
 }
 
-// Each call is made on the first n bytes or words of what is lent.
-fn read(asked: &[u8], file: &[u8], n: usize) {
-    if n <= file.len() {
-        told(asked, plan::plan_answer(&file[..n]));
+// The first five words of a delivery memory.
+fn tell_first(delivery: &[u32; 80]) {
+    mark(b':');
+    for i in 0..5 {
+        number(delivery[i]);
     }
 }
 
-fn window(asked: &[u8], file: &[u8], n: usize, flow: u32) {
-    if n <= file.len() {
-        told(asked, bounds::window(&file[..n], flow));
+// What is lent is no longer than the memory.
+fn at_most(n: u64, most: usize) -> usize
+    ensures { λ r. ⌜ r ≤ most ⌝ }
+{
+    let k = n as usize;
+    if most < k {
+        return most;
     }
+    k
 }
 
-fn flight(asked: &[u8], file: &[u8], n: usize, flow: u32) {
-    if n <= file.len() {
-        told(asked, bounds::flight_bound(&file[..n], flow));
-    }
-}
-
-fn reset_first(asked: &[u8], file: &[u8], bytes: usize, words: &mut [u32], n: usize) {
-    if file.len() < bytes {
-        return;
-    }
-    if n <= words.len() {
-        told(asked, reset::reset(&file[..bytes], &mut words[..n]));
-    }
-}
-
-fn offer(asked: &[u8], words: &mut [u32], n: usize, flow: u32) {
-    if n <= words.len() {
-        told(asked, offer::offer(&mut words[..n], flow));
-    }
-}
-
-fn step(asked: &[u8], words: &mut [u32], delivery: &mut [u32], n: usize) {
-    if n <= delivery.len() {
-        told(asked, step::step(words, &mut delivery[..n]));
-    }
-}
-
-fn write(
-    asked: &[u8],
-    words: &[u32],
-    n: usize,
-    notes: &[u8],
-    length: usize,
-    target: &mut [u8],
-    room: usize,
-) {
-    if words.len() < n {
-        return;
-    }
-    if notes.len() < length {
-        return;
-    }
-    if room <= target.len() {
-        told(
-            asked,
-            writing::write(&words[..n], &notes[..length], &mut target[..room]),
-        );
-    }
-}
-
-fn reading() {
-    let file = files::plan_of(4, 4, 1, 0, 2, 0);
-    read(b"11 bytes", &file, 11);
-    read(b"20 bytes", &file, 20);
-    let long = [0u8; 65537];
-    read(b"65,537 bytes", &long, 65537);
-    read(b"65,536 bytes without the tag", &long, 65536);
-    read(b"Sx 16", &files::plan_of(16, 4, 1, 0, 2, 0), 20);
-    read(b"Sx 17", &files::plan_of(17, 4, 1, 0, 2, 0), 20);
-    read(b"Sy 0", &files::plan_of(4, 0, 1, 0, 2, 0), 20);
-    // the count's two bytes stand at 12 and 13
-    read(b"count 0", &files::with_trailer(0, 0, 0), 20);
-    read(b"count 256 in 20 bytes", &files::with_trailer(0, 0, 1), 20);
-    read(b"count 257", &files::with_trailer(0, 1, 1), 20);
-    read(b"start 1 without notes", &files::with_trailer(1, 1, 0), 20);
-}
-
-fn flows() {
-    read(
-        b"a column off the torus",
-        &files::plan_of(4, 4, 1, 0, 4, 0),
-        20,
-    );
-    read(b"flow 1 off the torus", &files::pair_of(0, 4, 10, 1), 28);
-    read(b"flow 1 with period 0", &files::pair_of(0, 3, 0, 1), 28);
-    read(b"flow 1 with burst 0", &files::pair_of(0, 3, 10, 0), 28);
-    read(
-        b"flow 0 with a last byte, flow 1 off the torus",
-        &files::pair_of(9, 4, 10, 1),
-        28,
-    );
-}
-
-fn windows() {
-    let file = files::pair_of(0, 3, 10, 1);
-    window(b"window of flow 0", &file, 28, 0);
-    window(b"window of flow 1", &file, 28, 1);
-    window(b"window of flow 2 of two", &file, 28, 2);
-    window(b"window in no plan", &file, 27, 0);
-    window(
-        b"window beside period 1",
-        &files::pair_of(0, 3, 1, 1),
-        28,
-        0,
-    );
-}
-
-fn flights() {
-    let file = files::pair_of(0, 3, 10, 1);
-    flight(b"flight bound of flow 1", &file, 28, 1);
-    flight(b"flight bound of flow 2 of two", &file, 28, 2);
-    flight(
-        b"flight bound beside period 1",
-        &files::pair_of(0, 3, 1, 1),
-        28,
-        0,
-    );
-}
-
-// A state of one flow on 4 by 4 has 8 + 10 + 8×4×4 = 146 words, and a step asks for 5×4×4 = 80.
-fn resets_and_offers(words: &mut [u32]) {
-    let file = files::plan_of(4, 4, 1, 0, 2, 0);
-    reset_first(b"reset of 145 words", &file, 20, words, 145);
-    offer(b"offer to words that are no state", words, 146, 0);
-    reset_first(b"reset of 146 words", &file, 20, words, 146);
-    offer(b"offer lent 7 words", words, 7, 0);
-    offer(b"offer lent 145 words", words, 145, 0);
-    offer(b"offer to flow 1 of one", words, 146, 1);
-}
-
-fn steps(words: &mut [u32], delivery: &mut [u32]) {
-    step(
-        b"step with 79 words of delivery memory",
-        words,
-        delivery,
-        79,
-    );
-    step(
-        b"step with 80 words of delivery memory",
-        words,
-        delivery,
-        80,
-    );
-}
-
-// A plan of one flow from its reset on, with one packet offered.
-fn one_packet(asked: &[u8], file: &[u8], words: &mut [u32]) {
-    reset_first(asked, file, 20, words, 146);
-    offer(b"  offer", words, 146, 0);
-}
-
-// A step, and the first five words of its delivery memory: an exit's, or the nines that stood there.
-fn cycle(words: &mut [u32]) {
+// A step, with nines in the delivery memory: its first five words afterwards stand before the answer.
+fn step(state: &mut [u32], room: u32) -> Answer {
     let mut delivery = [9u32; 80];
-    step(b"  step", words, &mut delivery, 80);
-    delivered(b"  delivery memory", &delivery);
+    let n = at_most(room as u64, 80);
+    let answer = step::step(state, &mut delivery[..n]);
+    tell_first(&delivery);
+    answer
 }
 
-fn three_cycles(words: &mut [u32]) {
-    cycle(words);
-    cycle(words);
-    cycle(words);
+fn read_back(target: &[u8; 24]) -> Answer {
+    plan::plan_answer(target)
 }
 
-fn into_little(words: &[u32], notes: &[u8], target: &mut [u8]) {
-    write(
-        b"write with 4 bytes of notes into 23 bytes",
-        words,
-        146,
-        notes,
-        4,
-        target,
-        23,
-    );
-    write(
-        b"write with 4 bytes of notes into 24 bytes",
-        words,
-        146,
-        notes,
-        4,
-        target,
-        24,
-    );
-    read(b"reading what was written", target, 24);
-}
-
-fn from_much(words: &[u32], notes: &[u8], target: &mut [u8]) {
-    write(
-        b"write with 65,517 bytes of notes",
-        words,
-        146,
-        notes,
-        65517,
-        target,
-        24,
-    );
-    write(
-        b"write with 65,516 bytes of notes into 24 bytes",
-        words,
-        146,
-        notes,
-        65516,
-        target,
-        24,
-    );
-    write(b"write from 145 words", words, 145, notes, 4, target, 24);
-}
-
-// The same state with some of its words changed: 3 is the clock, 4 a zero, 17 the flow's waiting.
-fn limits(words: &mut [u32], delivery: &mut [u32]) {
-    put(words, 4, 1);
-    step(b"step with a zero word that is 1", words, delivery, 80);
-    put(words, 4, 0);
-    put(words, 17, 65534);
-    offer(b"offer at 65,534 waiting", words, 146, 0);
-    offer(b"offer at 65,535 waiting", words, 146, 0);
-}
-
-fn last_cycles(words: &mut [u32], delivery: &mut [u32]) {
-    put(words, 3, 4294967294);
-    step(b"step at clock 4,294,967,294", words, delivery, 80);
-    step(b"step at clock 4,294,967,295", words, delivery, 80);
-}
-
-// A flow to its own client exits in its entry cycle.
-fn squares(words: &mut [u32]) {
-    one_packet(
-        b"a flow to its own client on 4 by 4",
-        &files::plan_of(4, 4, 2, 2, 2, 2),
-        words,
-    );
-    cycle(words);
-    one_packet(b"1 by 1", &files::plan_of(1, 1, 0, 0, 0, 0), words);
-    cycle(words);
-}
-
-// Over two links: it exits in cycle 2.
-fn rows_and_columns(words: &mut [u32]) {
-    one_packet(
-        b"Sx 1, two links south",
-        &files::plan_of(1, 4, 0, 0, 0, 2),
-        words,
-    );
-    three_cycles(words);
-    one_packet(
-        b"Sy 1, two links east",
-        &files::plan_of(4, 1, 0, 0, 2, 0),
-        words,
-    );
-    three_cycles(words);
-}
-
-// A state of two flows has 156 words. Serial 1 of flow 0 is deflected at its destination by flow 1's packet: serial 2 leaves in
-// cycle 2, serial 1 in cycle 5.
-fn out_of_order(words: &mut [u32]) {
-    reset_first(
-        b"a flow's packets out of order",
-        &files::overtaking(),
-        28,
-        words,
-        156,
-    );
-    offer(b"  offer to flow 0", words, 156, 0);
-    offer(b"  offer to flow 0", words, 156, 0);
-    offer(b"  offer to flow 1", words, 156, 1);
-    three_cycles(words);
-    three_cycles(words);
-}
-
-fn writing_back(words: &mut [u32], notes: &[u8], target: &mut [u8]) {
-    reset_first(
-        b"reset to write",
-        &files::plan_of(4, 4, 1, 0, 2, 0),
-        20,
-        words,
-        146,
-    );
-    into_little(words, notes, target);
-    from_much(words, notes, target);
-}
-
-fn engine_runs(words: &mut [u32], delivery: &mut [u32]) {
-    resets_and_offers(words);
-    steps(words, delivery);
-    limits(words, delivery);
-    last_cycles(words, delivery);
-}
-
-fn packets(words: &mut [u32]) {
-    squares(words);
-    rows_and_columns(words);
-    out_of_order(words);
-}
-
-fn run(words: &mut [u32], delivery: &mut [u32], notes: &[u8], target: &mut [u8]) {
-    engine_runs(words, delivery);
-    packets(words);
-    writing_back(words, notes, target);
-}
-
-fn main() {
-    let mut words = [7u32; 156];
-    let mut delivery = [9u32; 80];
-    let notes = [33u8; 65517];
+// The answer of writing stands before that of reading what was written.
+fn write(state: &[u32], notes: &[u8], room: u32) -> Answer {
     let mut target = [0u8; 24];
-    reading();
-    flows();
-    windows();
-    flights();
-    run(&mut words, &mut delivery, &notes, &mut target);
+    let n = at_most(room as u64, 24);
+    tell(writing::write(state, notes, &mut target[..n]));
+    read_back(&target)
+}
+
+// The calls that leave the state as it is. A line that is none of the script's is refused with 0.
+fn ask(word: u64, file: &[u8], state: &[u32], last: u32) -> Answer {
+    match word {
+        READ => plan::plan_answer(file),
+        WINDOW => bounds::window(file, last),
+        FLIGHT => bounds::flight_bound(file, last),
+        WRITE => write(state, file, last),
+        BYTE | WORD => Answer::Done(0),
+        _ => Answer::Refused {
+            number: 0,
+            place: 0,
+        },
+    }
+}
+
+// Each call, on what it is lent. The last number is a flow, or the words of the delivery memory or the bytes of the target.
+fn call(word: u64, file: &[u8], state: &mut [u32], last: u32) -> Answer {
+    match word {
+        RESET => reset::reset(file, state),
+        OFFER => offer::offer(state, last),
+        STEP => step(state, last),
+        _ => ask(word, file, state, last),
+    }
+}
+
+// The first bytes of the plan file and the first words of the state are lent, as many as the line says.
+fn lend(word: u64, file: &[u8], bytes: u64, state: &mut [u32], words: u64, last: u32) {
+    let n = at_most(bytes, file.len());
+    let k = at_most(words, state.len());
+    tell_line(word, call(word, &file[..n], &mut state[..k], last));
+}
+
+// A line changes a word of the state, or a byte of the plan file, if it asks for that.
+fn put_word(word: u64, state: &mut [u32], at: u64, value: u64) {
+    let i = at as usize;
+    if word != WORD {
+        return;
+    }
+    if i < state.len() {
+        state[i] = low(value);
+    }
+}
+
+fn put_byte(word: u64, file: &mut [u8], at: u64, value: u64) {
+    let i = at as usize;
+    if word != BYTE {
+        return;
+    }
+    if i < file.len() {
+        file[i] = (value % 256) as u8;
+    }
+}
+
+fn low(n: u64) -> u32 {
+    (n % 4294967296) as u32
+}
+
+// Whether no number is above its most.
+fn fits(a: u64, most_a: u64, b: u64, most_b: u64, c: u64, most_c: u64) -> bool {
+    if most_a < a {
+        return false;
+    }
+    if most_b < b {
+        return false;
+    }
+    c <= most_c
+}
+
+// Whether no number is missing or too large. A byte or a word is asked for by two numbers, and a call by three.
+fn fitting(word: u64, a: u64, b: u64, c: u64) -> bool {
+    match word {
+        BYTE => fits(a, 65536, b, 255, line::NONE, c),
+        WORD => fits(a, 155, b, 4294967295, line::NONE, c),
+        STEP => fits(a, 0, b, 156, c, 80),
+        WRITE => fits(a, 65537, b, 156, c, 24),
+        _ => fits(a, 65537, b, 156, c, 4294967295),
+    }
+}
+
+// The word of a line that starts with the byte, or 0 where a number is missing or too large.
+fn checked(first: u8, word: u64, a: u64, b: u64, c: u64) -> u64 {
+    if first == b'#' {
+        return NOTE;
+    }
+    if fitting(word, a, b, c) {
+        return word;
+    }
+    0
+}
+
+// A line as it was read: its end, its word and its numbers.
+struct Asked {
+    end: usize,
+    word: u64,
+    a: u64,
+    b: u64,
+    c: u64,
+}
+
+// The line at a place, written again.
+fn line_at(script: &[u8], at: usize) -> Asked
+    requires { ⌜ at < length (now script) ⌝ }
+    ensures { λ r. ⌜ (at ≤ r .end) × (r .end ≤ length (now (script .entry))) ⌝ }
+{
+    let word = line::field_of(script, at, 1);
+    let a = line::field_of(script, at, 2).value;
+    let b = line::field_of(script, at, 3).value;
+    let c = line::field_of(script, at, 4).value;
+    let end = word.end;
+    io::write_all(STDOUT_FILENO, &script[at..end]);
+    Asked {
+        end,
+        word: checked(script[at], word.value, a, b, c),
+        a,
+        b,
+        c,
+    }
+}
+
+// Each line, on one plan file and one state.
+fn run(script: &[u8], file: &mut [u8], state: &mut [u32]) {
+    let mut at = 0;
+    while at < script.len() {
+        let l = line_at(script, at);
+        put_byte(l.word, file, l.a, l.b);
+        put_word(l.word, state, l.a, l.b);
+        lend(l.word, file, l.a, state, l.b, low(l.c));
+        at = l.end + 1;
+    }
+}
+
+// A script has at most 16,384 bytes.
+fn main() {
+    let mut script = [0u8; 16384];
+    let n = io::read_full(STDIN_FILENO, &mut script);
+    let mut file = [0u8; 65537];
+    let mut state = [7u32; 156];
+    run(&script[..n], &mut file, &mut state);
 }

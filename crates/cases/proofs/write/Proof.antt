@@ -7,7 +7,4 @@ use Rattle.cases.proofs.write.Statement.{statement}
 use Rattle.cases.proofs.write.Tie as tie
 
 pub write-spec : {M : Type 1} → statement M
-write-spec =
-    tie.close (tie.spec (λ c. search needs) (λ c. search needs) (λ c. sym (length-take-le _ _ (omega arith)))
-    (λ c. sym (length-take-le _ _ (omega arith))) (λ c. search needs) (λ c. sym (length-take-le _ _ (omega arith)))
-    (λ c. search needs) (λ c. search needs) (λ c. search needs) (λ c. search needs) (λ c. search needs))
+write-spec = tie.close (tie.spec (λ c κs. search needs) (λ c. search needs) (λ c. sym (length-take-le _ _ (omega arith))) (λ c κs. search needs) (λ c κs. search needs) (λ c κs. search needs) (λ c. search needs))
