@@ -32,4 +32,5 @@ conflictSouth sx sy f g =
 -- how g, a flow other than f, conflicts with f at f's source
 unfoldable pub conflict : ℕ → ℕ → Flow → Flow → Conflict
 conflict sx sy f g =
-    cond (sameClient f g) (Spread 0) (cond (samePort (portOf sx f) East) (conflictEast sx sy f g) (conflictSouth sx sy f g))
+    cond (sameClient f g) (Spread 0)
+    (cond (samePort (portOf sx f) East) (conflictEast sx sy f g) (conflictSouth sx sy f g))

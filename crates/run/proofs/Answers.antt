@@ -150,8 +150,9 @@ module _ (file words : List ℕ) (bytes : Bytes file) (done : (resetOn file word
     -- an accepted offer was fed to the book
     was-fed : (onMemory memory i) .answer ≡ Done 0 → (roleIn p i ≡ role (i .asked)) × ((feed p b (Feed.offer f)) .reply ≡ Done 0)
     was-fed e =
+        let does-it = does p words b kept i (λ g e. absurd (offer-reset f g e)) in
         let due-is : (due p b words i (roleIn p i)) .answer ≡ Done 0 =
-        sym (ap (λ (o : Outcome Answer Lent). o .answer) (does p words b kept i (λ g e. absurd (offer-reset f g e)))) ∙ ap (λ m. (onMemory m i) .answer) (sym (follows .state)) ∙ e in
+        sym (ap (λ (o : Outcome Answer Lent). o .answer) does-it) ∙ ap (λ m. (onMemory m i) .answer) (sym (follows .state)) ∙ e in
         elim (test (ltb n (planSize p))) [
           | inl few ↦ absurd (refused-done _ _ _ (rw few at due-is))
           | inr all ↦ (rw all, rw all at due-is)

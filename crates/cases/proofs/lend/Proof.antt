@@ -7,4 +7,7 @@ use Rattle.cases.proofs.lend.Statement.{statement}
 use Rattle.cases.proofs.lend.Tie as tie
 
 pub lend-spec : {M : Type 1} → statement M
-lend-spec = tie.close (tie.spec (λ c κs. search needs) (λ c κs. search needs) (λ c. sym (length-take-le _ _ (omega arith))) (λ c. search needs) (λ c. sym (length-take-le _ _ (omega arith))) (λ c κs. search needs) (λ c κs. search needs) (λ c. search needs) (λ c. search needs))
+lend-spec =
+    tie.close (tie.spec (λ c κs. search needs) (λ c κs. search needs) (λ c. sym (length-take-le _ _ (omega arith)))
+    (λ c. search needs) (λ c. sym (length-take-le _ _ (omega arith))) (λ c κs. search needs) (λ c κs. search needs)
+    (λ c. search needs) (λ c. search needs))

@@ -7,4 +7,6 @@ use Rattle.cases.proofs.step.Statement.{statement}
 use Rattle.cases.proofs.step.Tie as tie
 
 pub step-spec : {M : Type 1} → statement M
-step-spec = tie.close (tie.spec (λ c κs. search needs) (λ c. search needs) (λ c. sym (length-take-le _ _ (omega arith))) (λ c κs. search needs) (λ c κs. search needs) (λ c. search needs) (λ c. search needs))
+step-spec =
+    tie.close (tie.spec (λ c κs. search needs) (λ c. search needs) (λ c. sym (length-take-le _ _ (omega arith)))
+    (λ c κs. search needs) (λ c κs. search needs) (λ c. search needs) (λ c. search needs))
