@@ -1,18 +1,19 @@
 //! A million offers through the desk's `run`, beside the archive's own calls for them.
 
 use crate::loads::{Case, Load, case};
+use crate::processor::{ended, own, stay};
 use second::host::Engine;
 use std::fmt::Write;
 use std::fs::{self, File};
 use std::hint::black_box;
 use std::path::Path;
-use std::process::{Command, Stdio};
+use std::process::{Child, Command};
 
 const OFFERS: usize = 1_000_000;
-/// Turns of each. Others share the machine, so the best turn by processor time is taken.
-const TURNS: usize = 9;
-/// Of a second, as /proc counts processor time.
-const TICKS: f64 = 100.0;
+/// Pairs of the two. The archive's own calls and the desk run at once on one core, which turns from
+/// one to the other every few milliseconds, so that what others do to the machine slows both alike.
+/// The best of each gives its time, and the median of the pairs' ratios the ratio.
+const PAIRS: usize = 9;
 
 /// Offers of all flows in turn, as many in each cycle, and as text.
 struct Stream {
@@ -34,42 +35,43 @@ fn stream(flows: usize, per_cycle: usize) -> Stream {
 pub fn time(program: &str, archive: &impl Engine) {
     let folder = std::env::temp_dir().join(format!("bench.{}", std::process::id()));
     fs::create_dir(&folder).unwrap();
-    println!(
-        "call     torus  flows  offers per cycle  archive ms  desk ms  ratio  desk --summary ms  ratio"
-    );
+    stay();
+    println!("call           torus  flows  offers per cycle  archive ms  desk ms  ratio");
     for per_cycle in [1, 64] {
         let case = case(8, 64, Load::Saturated);
         let stream = stream(case.flows, per_cycle);
         fs::write(folder.join("plan"), &case.file).unwrap();
         fs::write(folder.join("offers"), &stream.text).unwrap();
-        let turns: [&dyn Fn(); 3] =
-            [&|| calls(archive, &case, &stream.offers), &|| run(program, &folder, &[]), &|| {
-                run(program, &folder, &["--summary"])
-            }];
-        let mut best = [f64::INFINITY; 3];
-        for _ in 0..TURNS {
-            for (best, turn) in best.iter_mut().zip(turns) {
-                let began = processor_time();
-                turn();
-                *best = best.min(processor_time() - began);
-            }
+        for (call, options) in [("run", &[][..]), ("run --summary", &["--summary"])] {
+            let pairs = [(); PAIRS].map(|()| {
+                pair(|| calls(archive, &case, &stream.offers), || run(program, &folder, options))
+            });
+            let best = |which: usize| pairs.map(|pair| pair[which]).into_iter().reduce(f64::min);
+            let (calls, desk, ratio) = (best(0).unwrap(), best(1).unwrap(), middle_ratio(&pairs));
+            let flows = case.flows;
+            println!(
+                "{call:13}  8x8    {flows:5} {per_cycle:17} {calls:11.0} {desk:8.0} {ratio:6.2}"
+            );
         }
-        let [calls, all, summary] = best;
-        let ratios = (all / calls, summary / calls);
-        println!(
-            "run      8x8    {:5} {per_cycle:17} {calls:11.0} {all:8.0} {:6.2} {summary:18.0} {:6.2}",
-            case.flows, ratios.0, ratios.1
-        );
     }
     fs::remove_dir_all(&folder).unwrap();
 }
 
-/// Milliseconds of processor time of this process and of the programs that it has run.
-fn processor_time() -> f64 {
-    let stat = fs::read_to_string("/proc/self/stat").unwrap();
-    let (_, fields) = stat.rsplit_once(") ").unwrap();
-    let ticks = fields.split(' ').skip(11).take(4).map(|field| field.parse::<f64>().unwrap());
-    1000.0 * ticks.sum::<f64>() / TICKS
+/// Milliseconds of processor time of some work here, and of a program beside it.
+fn pair(work: impl Fn(), start: impl Fn() -> Child) -> [f64; 2] {
+    let before = ended();
+    let mut program = start();
+    let began = own();
+    work();
+    let worked = own() - began;
+    assert!(program.wait().unwrap().success());
+    [worked, ended() - before]
+}
+
+fn middle_ratio(pairs: &[[f64; 2]; PAIRS]) -> f64 {
+    let mut ratios = pairs.map(|[calls, desk]| desk / calls);
+    ratios.sort_by(f64::total_cmp);
+    ratios[PAIRS / 2]
 }
 
 /// The archive's own calls: each offer before the step of its cycle, until everything has left.
@@ -89,13 +91,12 @@ fn calls(archive: &impl Engine, case: &Case, offers: &[(u32, u32)]) {
     }
 }
 
-fn run(program: &str, folder: &Path, options: &[&str]) {
-    let status = Command::new(program)
+fn run(program: &str, folder: &Path, options: &[&str]) -> Child {
+    Command::new(program)
         .arg("run")
         .args([folder.join("plan"), folder.join("offers")])
         .args(options)
-        .stdout(Stdio::from(File::create("/dev/null").unwrap()))
-        .status()
-        .unwrap();
-    assert!(status.success());
+        .stdout(File::create("/dev/null").unwrap())
+        .spawn()
+        .unwrap()
 }

@@ -7,6 +7,8 @@ mod desk;
 mod listing;
 mod loads;
 mod plain;
+#[cfg(feature = "engine")]
+mod processor;
 mod times;
 
 use plain::Plain;

@@ -26,19 +26,18 @@ pub fn decimal(field: &[u8]) -> Option<u64> {
     })
 }
 
-/// Appends a number in decimal.
-pub fn push_decimal(out: &mut Vec<u8>, mut number: u32) {
-    let mut digits = [0; 10];
-    let mut at = digits.len();
-    loop {
-        at -= 1;
-        digits[at] = b'0' + (number % 10) as u8;
+/// Puts a number in decimal at the end of these bytes, and gives the count of its digits.
+pub fn put_decimal(bytes: &mut [u8], mut number: u32) -> usize {
+    let mut digits = 0;
+    for byte in bytes.iter_mut().rev() {
+        *byte = b'0' + (number % 10) as u8;
         number /= 10;
+        digits += 1;
         if number == 0 {
             break;
         }
     }
-    out.extend_from_slice(&digits[at..]);
+    digits
 }
 
 /// The blank-separated fields of a line, up to a field that starts with #.
@@ -160,9 +159,10 @@ mod tests {
     #[test]
     fn decimals_are_written_back() {
         for number in [0, 1, 9, 10, 99, 100, 65_535, 999_999_999, 1_000_000_000, u32::MAX] {
-            let mut text = Vec::new();
-            push_decimal(&mut text, number);
-            assert_eq!(text, number.to_string().into_bytes());
+            let mut text = *b"............";
+            let front = text.len() - put_decimal(&mut text, number);
+            assert_eq!(text[front..], *number.to_string().as_bytes());
+            assert_eq!(text[..front], b"............"[..front]);
         }
     }
 

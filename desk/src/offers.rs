@@ -50,6 +50,11 @@ impl<R: Read> Offers<R> {
     pub fn next(&mut self) -> Next {
         loop {
             let rest = &self.buffer[self.start..self.end];
+            if let Some((offer, past)) = plain(rest) {
+                self.line += 1;
+                self.start += past;
+                return self.in_order(offer);
+            }
             let (length, past) = match rest.iter().position(|&byte| byte == b'\n') {
                 Some(length) => (length, length + 1),
                 None if !self.ended && rest.len() == BUFFER => {
@@ -61,25 +66,26 @@ impl<R: Read> Offers<R> {
                 None => (rest.len(), rest.len()),
             };
             let line = &rest[..length];
-            let line = line.strip_suffix(b"\r").unwrap_or(line);
+            let offer = offer(line.strip_suffix(b"\r").unwrap_or(line));
             self.line += 1;
-            let offer = plain(line).map_or_else(|| offer(line), |offer| Ok(Some(offer)));
             self.start += past;
             match offer {
                 Ok(None) => {}
-                Ok(Some(offer)) if offer.cycle < self.cycle => {
-                    let (now, last) = (offer.cycle, self.cycle);
-                    return self.fault(&format!(
-                        "cycle {now} comes after cycle {last}; cycles never go back"
-                    ));
-                }
-                Ok(Some(offer)) => {
-                    self.cycle = offer.cycle;
-                    return Next::Offer(offer);
-                }
+                Ok(Some(offer)) => return self.in_order(offer),
                 Err(wrong) => return self.fault(&wrong),
             }
         }
+    }
+
+    /// The offer, unless its cycle goes back.
+    fn in_order(&mut self, offer: Offer) -> Next {
+        if offer.cycle < self.cycle {
+            let (now, last) = (offer.cycle, self.cycle);
+            let wrong = format!("cycle {now} comes after cycle {last}; cycles never go back");
+            return self.fault(&wrong);
+        }
+        self.cycle = offer.cycle;
+        Next::Offer(offer)
     }
 
     fn fault(&self, wrong: &str) -> Next {
@@ -106,14 +112,28 @@ impl<R: Read> Offers<R> {
     }
 }
 
-/// The offer of a line that is two short numbers with one space between them, as most are.
-fn plain(line: &[u8]) -> Option<Offer> {
-    let at = line.iter().position(|&byte| byte == b' ')?;
-    let (cycle, flow) = (&line[..at], &line[at + 1..]);
-    if cycle.len() > 9 || flow.len() > 9 {
-        return None;
+/// The offer of a whole line in front that is two short numbers with one space between them, as most
+/// are, and the line's length.
+fn plain(bytes: &[u8]) -> Option<(Offer, usize)> {
+    let (cycle, first) = short(bytes, b' ')?;
+    let (flow, second) = short(&bytes[first..], b'\n')?;
+    Some((Offer { cycle, flow }, first + second))
+}
+
+/// The number in front, of at most nine digits, if this byte ends it, and its length with that byte.
+fn short(bytes: &[u8], end: u8) -> Option<(u32, usize)> {
+    let mut number = 0u64;
+    for (at, &byte) in bytes.iter().take(10).enumerate() {
+        if byte == end {
+            return (at > 0).then_some((number as u32, at + 1));
+        }
+        let digit = byte.wrapping_sub(b'0');
+        if digit > 9 {
+            return None;
+        }
+        number = 10 * number + u64::from(digit);
     }
-    Some(Offer { cycle: decimal(cycle)? as u32, flow: decimal(flow)? as u32 })
+    None
 }
 
 /// The offer of a line, or none of a blank one or a comment.

@@ -1,6 +1,6 @@
 //! What a run prints: a line per exit, and the table.
 
-use crate::bytes::push_decimal;
+use crate::bytes::put_decimal;
 use crate::tally::Tally;
 use hrt::{Delivery, State};
 use std::io::{self, stdout, Write};
@@ -13,6 +13,8 @@ pub struct Output {
 }
 
 const FULL: usize = 1 << 16;
+/// The longest line of an exit, with a blank in front: eight numbers of ten digits at most.
+const LINE: usize = 1 + 8 * 11;
 
 impl Output {
     pub fn new(exits: bool) -> Output {
@@ -30,13 +32,13 @@ impl Output {
         let Delivery { flow, serial, entry, deflections, .. } = *exit;
         let wait = entry - offer;
         let numbers = [exit.exit, flow, serial, offer, entry, wait, deflections, exit.flight()];
-        for number in numbers {
-            push_decimal(&mut self.bytes, number);
-            self.bytes.push(b' ');
+        let mut line = [b' '; LINE];
+        line[LINE - 1] = b'\n';
+        let mut place = LINE - 1;
+        for number in numbers.into_iter().rev() {
+            place -= put_decimal(&mut line[..place], number) + 1;
         }
-        if let Some(last) = self.bytes.last_mut() {
-            *last = b'\n';
-        }
+        self.bytes.extend_from_slice(&line[place + 1..]);
         if self.bytes.len() >= FULL {
             self.flush()?;
         }

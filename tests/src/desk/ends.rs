@@ -9,12 +9,17 @@ use std::process::{Command, Stdio};
 
 const MODE: &[u8] = b"torus 4 4\nflow 1 0 2 0 10 1\nflow 0 0 3 0 10 1\n";
 
-pub fn all(program: &Program, tally: &mut Tally) {
+/// What calls tell.
+pub fn calls(program: &Program, tally: &mut Tally) {
     write(&program.file("mode.txt"), MODE);
     assert_eq!(program.call(tally, &["plan", "mode.txt", "a mode.plan"], b"").status, 0);
     words(program, tally);
     files(program, tally);
     standard_streams(program, tally);
+}
+
+/// What only a running program shows.
+pub fn processes(program: &Program) {
     interrupt(program);
     closed_pipe(program);
     long_stream(program);

@@ -39,7 +39,8 @@ pub fn printed(plan: &Plan, entries: &[Entry], options: Options) -> String {
     let run = ran(plan, entries, options.cycles);
     let mut text = String::new();
     if !options.summary {
-        text += "exit flow serial offer entry wait deflections flight\n";
+        text += EXIT_HEADS;
+        text += "\n";
         for &line in &run.exits {
             let line = &run.book.lines[line];
             let (entry, exit) = (line.entry.unwrap(), line.exit.unwrap().0);
@@ -102,7 +103,8 @@ fn ran(plan: &Plan, entries: &[Entry], cycles: Option<i64>) -> Run {
     }
 }
 
-const HEADS: &str =
+pub const EXIT_HEADS: &str = "exit flow serial offer entry wait deflections flight";
+pub const HEADS: &str =
     "flow offered refused left waiting flying wait wait-bound spare nearest flight flight-bound";
 
 /// The table: columns to the right, two blanks apart.

@@ -1,7 +1,8 @@
 //! Each fault of a text and of a stream, one by one: what is told, the status, and that nothing is
 //! written.
 
-use super::program::{Program, write};
+use super::expected::{Entry, Options, printed};
+use super::program::{Program, same_lines, write};
 use crate::compare::Tally;
 use crate::plan::{Flow, Plan};
 use std::fs;
@@ -142,8 +143,12 @@ pub fn texts(program: &Program, tally: &mut Tally) {
 
 /// Each faulty line ends the run with status 2, after the table so far.
 pub fn streams(program: &Program, tally: &mut Tally) {
-    write(&program.file("mode.txt"), b"torus 4 4\nflow 1 0 2 0 10 1\nflow 0 0 3 0 10 1\n");
-    assert_eq!(program.call(tally, &["plan", "mode.txt"], b"").status, 0);
+    let flows = [[1, 0, 2, 0, 10, 1], [0, 0, 3, 0, 10, 1]].map(Flow::from_numbers);
+    let plan = Plan { sx: 4, sy: 4, flows: flows.to_vec() };
+    write(&program.file("mode.plan"), &plan.file(b""));
+    let [first, second] = [(0, 0), (6, 1)].map(|(cycle, flow)| Entry::Offer { cycle, flow });
+    let options = Options { cycles: None, summary: false };
+    let expected = printed(&plan, &[first, second, Entry::Fault], options);
     let what = "a line is CYCLE FLOW, as 120 3";
     let last = "it must be 0 to 4294967294";
     let cases = [
@@ -168,12 +173,7 @@ pub fn streams(program: &Program, tally: &mut Tally) {
             (2, &format!("offers:4: {fault}\n")[..]),
             "{line}"
         );
-        let out = String::from_utf8(got.out).unwrap();
-        let told = "   1        1        0     0        1       0     -           -      -        -       -             5\n";
-        assert!(
-            out.ends_with(&format!("{told}ended at cycle 6: at a faulty line\n")),
-            "{line}: {out}"
-        );
+        same_lines(tally, &line, &expected, &got.out);
     }
     for name in ["offers", "mode.plan"] {
         fs::remove_file(program.file(name)).unwrap();

@@ -2,9 +2,9 @@
 //! round trip of `show` and `plan`, each fault of texts and streams, and how it ends.
 
 mod ends;
-mod expected;
+pub mod expected;
 mod faults;
-mod program;
+pub mod program;
 mod streams;
 mod texts;
 
@@ -16,14 +16,20 @@ use program::Program;
 pub fn run(program: &str, seed: u64, extent: Extent) -> Tally {
     let program = Program::new(program);
     let mut tally = Tally::new(seed);
-    faults::texts(&program, &mut tally);
-    faults::streams(&program, &mut tally);
-    ends::all(&program, &mut tally);
-    streams::full_queue(&program, &mut tally);
-    streams::met_exactly(&program, &mut tally);
-    rounds("desk", &mut tally, extent, |tally, random, sx, sy| {
-        texts::round(&program, tally, random, sx, sy);
-        streams::round(&program, tally, random, sx, sy);
-    });
+    calls(&program, &mut tally, extent);
+    ends::processes(&program);
     tally
+}
+
+/// What is compared call by call.
+pub fn calls(program: &Program, tally: &mut Tally, extent: Extent) {
+    faults::texts(program, tally);
+    faults::streams(program, tally);
+    ends::calls(program, tally);
+    streams::full_queue(program, tally);
+    streams::met_exactly(program, tally);
+    rounds("desk", tally, extent, |tally, random, sx, sy| {
+        texts::round(program, tally, random, sx, sy);
+        streams::round(program, tally, random, sx, sy);
+    });
 }

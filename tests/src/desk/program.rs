@@ -1,4 +1,6 @@
 //! The program under test, and a folder for its files.
+//!
+//! A fault may be planted in how it is called: then the comparison must notice.
 
 use crate::compare::Tally;
 use std::io::Write;
@@ -9,7 +11,11 @@ use std::{fs, thread};
 pub struct Program {
     path: String,
     folder: PathBuf,
+    caller: Caller,
 }
+
+/// What a call with these words and this standard input gives, and leaves in the folder.
+pub type Caller = fn(&Program, &[&str], &[u8]) -> Output;
 
 /// What a call of the program printed, and its status (-1 if a signal ended it).
 #[derive(Debug)]
@@ -21,11 +27,16 @@ pub struct Output {
 
 impl Program {
     pub fn new(path: &str) -> Program {
+        Program::planted(path, Program::answer)
+    }
+
+    /// The program as this caller makes it look.
+    pub fn planted(path: &str, caller: Caller) -> Program {
         let path = fs::canonicalize(path).unwrap_or_else(|why| panic!("{path}: {why}"));
         let path = path.into_os_string().into_string().unwrap();
         let folder = std::env::temp_dir().join(format!("desk.{}", std::process::id()));
         fs::create_dir(&folder).unwrap_or_else(|why| panic!("{}: {why}", folder.display()));
-        Program { path, folder }
+        Program { path, folder, caller }
     }
 
     pub fn path(&self) -> &str {
@@ -59,6 +70,14 @@ impl Program {
 
     /// Calls the program in its folder.
     pub fn call(&self, tally: &mut Tally, words: &[&str], input: &[u8]) -> Output {
+        let output = (self.caller)(self, words, input);
+        *tally.answers.entry(("desk", output.status.unsigned_abs().into())).or_default() += 1;
+        tally.words += output.out.len() as u64;
+        output
+    }
+
+    /// What the program itself gives.
+    pub fn answer(&self, words: &[&str], input: &[u8]) -> Output {
         let mut child = self.start(words);
         let mut stdin = child.stdin.take().unwrap();
         let output = thread::scope(|scope| {
@@ -67,10 +86,7 @@ impl Program {
             child.wait_with_output().unwrap()
         });
         let err = String::from_utf8(output.stderr).unwrap();
-        let status = output.status.code().unwrap_or(-1);
-        *tally.answers.entry(("desk", status.unsigned_abs().into())).or_default() += 1;
-        tally.words += output.stdout.len() as u64;
-        Output { out: output.stdout, err, status }
+        Output { out: output.stdout, err, status: output.status.code().unwrap_or(-1) }
     }
 }
 

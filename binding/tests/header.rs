@@ -1,0 +1,135 @@
+//! What src/calls.rs declares and src/limits.rs names is what include/hrt.h says.
+
+use hrt::limits::*;
+
+const HEADER: &str = include_str!("../../include/hrt.h");
+const CALLS: &str = include_str!("../src/calls.rs");
+
+/// The header's macros that decode an answer; all others are limits.
+const DECODINGS: [&str; 5] = [
+    "HRT_IS_REFUSED(answer)",
+    "HRT_NUMBER(answer)",
+    "HRT_PLACE(answer)",
+    "HRT_WINDOW_IS_REFUSED(answer)",
+    "HRT_WINDOW_NUMBER(answer)",
+];
+
+/// The limits as the header would define them by the binding's.
+fn limits() -> Vec<(&'static str, String)> {
+    let router = 2 * REGISTER_WORDS;
+    let grid = "(size_t)(sx) * (size_t)(sy)";
+    let size = "HRT_MOST_SIZE * HRT_MOST_SIZE";
+    vec![
+        ("HRT_MOST_PLAN_BYTES", MOST_PLAN_BYTES.to_string()),
+        ("HRT_MOST_SIZE", MOST_SIDE.to_string()),
+        ("HRT_MOST_FLOWS", MOST_FLOWS.to_string()),
+        ("HRT_MOST_WAITING", MOST_WAITING.to_string()),
+        ("HRT_LAST_CLOCK", format!("{LAST_CLOCK}u")),
+        (
+            "HRT_STATE_WORDS(flows, sx, sy)",
+            format!("((size_t){HEAD_WORDS} + {FLOW_WORDS} * (size_t)(flows) + {router} * {grid})"),
+        ),
+        ("HRT_DELIVERY_WORDS(sx, sy)", format!("({EXIT_WORDS} * {grid})")),
+        (
+            "HRT_MOST_STATE_WORDS",
+            format!("({HEAD_WORDS} + {FLOW_WORDS} * HRT_MOST_FLOWS + {router} * {size})"),
+        ),
+        ("HRT_MOST_DELIVERY_WORDS", format!("({EXIT_WORDS} * {size})")),
+    ]
+}
+
+#[test]
+fn functions_are_the_headers() {
+    let (header, binding) = (functions_of_header(), functions_of_binding());
+    for (header, binding) in header.iter().zip(&binding) {
+        assert_eq!(
+            header, binding,
+            "include/hrt.h is on the left, binding/src/calls.rs on the right"
+        );
+    }
+    assert_eq!(header.len(), binding.len(), "functions of include/hrt.h and binding/src/calls.rs");
+}
+
+#[test]
+fn limits_are_the_headers() {
+    let limits = limits();
+    let mut found = macros();
+    found.retain(|(name, _)| !DECODINGS.contains(&name.as_str()));
+    for ((name, text), (limit, expected)) in found.iter().zip(&limits) {
+        let found = (name.as_str(), text);
+        assert_eq!(
+            found,
+            (*limit, expected),
+            "include/hrt.h is on the left, binding/ on the right"
+        );
+    }
+    assert_eq!(found.len(), limits.len(), "limits of include/hrt.h and binding/src/limits.rs");
+}
+
+/// The header without its comments.
+fn header() -> String {
+    let mut code = String::new();
+    for part in HEADER.split("/*") {
+        code += part.split_once("*/").map_or(part, |(_, code)| code);
+    }
+    code
+}
+
+/// The header's macros with a text: name with arguments, and text.
+fn macros() -> Vec<(String, String)> {
+    let text = |line: &str| {
+        let line = line.strip_prefix("#define ")?;
+        let open = line.find('(').filter(|&at| !line[..at].contains(' '));
+        let length = open.map_or_else(|| line.find(' '), |_| line.find(')').map(|at| at + 1))?;
+        Some((line[..length].to_string(), line[length..].trim().to_string()))
+    };
+    header().lines().filter_map(text).collect()
+}
+
+/// The header's functions in Rust's words, in order.
+fn functions_of_header() -> Vec<String> {
+    let header = header();
+    let is_code = |line: &&str| !line.starts_with('#') && !line.contains(['{', '}']);
+    let code = header.lines().filter(is_code).collect::<Vec<_>>().join(" ");
+    code.split_terminator(';').map(str::trim).filter(|text| !text.is_empty()).map(in_rust).collect()
+}
+
+fn in_rust(declaration: &str) -> String {
+    let (front, arguments) = declaration.split_once('(').expect(declaration);
+    let (result, name) = named(front);
+    let arguments = arguments.strip_suffix(')').expect(declaration).split(',');
+    let argument = |text: &str| {
+        let (kind, name) = named(text);
+        format!("{name}: {kind}")
+    };
+    let arguments = arguments.map(argument).collect::<Vec<_>>().join(", ");
+    format!("{name}({arguments}) -> {result}")
+}
+
+/// The type in front of a name, in Rust's words, and the name.
+fn named(text: &str) -> (&'static str, &str) {
+    let start = text.rfind([' ', '*']).expect(text) + 1;
+    let kind = match text[..start].split_whitespace().collect::<Vec<_>>()[..] {
+        ["size_t"] => "usize",
+        ["uint32_t"] => "u32",
+        ["uint64_t"] => "u64",
+        ["uint8_t", "*"] => "*mut u8",
+        ["uint32_t", "*"] => "*mut u32",
+        ["const", "uint8_t", "*"] => "*const u8",
+        ["const", "uint32_t", "*"] => "*const u32",
+        _ => panic!("no type is known for '{text}'"),
+    };
+    (kind, &text[start..])
+}
+
+/// The binding's functions, in order, each on one line.
+fn functions_of_binding() -> Vec<String> {
+    let (_, code) = CALLS.split_once("extern \"C\" {").expect("calls.rs declares functions");
+    let (code, _) = code.split_once('}').expect("the declarations end");
+    let line = |text: &str| {
+        let words = text.split_whitespace().collect::<Vec<_>>().join(" ");
+        let words = words.replace("( ", "(").replace(", )", ")");
+        words.strip_prefix("pub fn ").expect(&words).to_string()
+    };
+    code.split(';').map(str::trim).filter(|text| !text.is_empty()).map(line).collect()
+}
