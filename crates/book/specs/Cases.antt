@@ -5,7 +5,7 @@ use mathlib.Core.Path.{_≡_}
 use Prim.Native.Nat.{ℕ, zero, suc}
 use Rattle.flow.specs.declared.Flow.{Flow}
 use Rattle.flow.specs.Offsets.{ΔX, ΔY}
-use Rattle.flow.specs.Plan.{Plan, flow, flowAt}
+use Rattle.flow.specs.Plan.{Plan, flowWith as flow, flowAt}
 use Rattle.plan.specs.declared.Answer.{Answer}
 use Rattle.plan.specs.declared.Answer.the-variants.{Done, Refused}
 use Rattle.plan.specs.Written.{planBytes}
@@ -14,7 +14,7 @@ use Rattle.conflict.specs.Conflict.{conflict}
 use Rattle.flight.specs.Flight.{flight, flightBound}
 use Rattle.bounds.specs.Bounds.{windowAnswer}
 use Rattle.book.specs.Book.{bucketAt}
-use Rattle.router.specs.Delivery.{Delivery, delivery}
+use Rattle.router.specs.Delivery.{Delivery, deliveryWith as exit}
 use Rattle.book.specs.Feed.{Call, offer, step, run}
 
 abbrev torus : List Flow → Plan
@@ -77,12 +77,12 @@ slow = torus (flow 0 0 3 3 10 1 ∷ [])
 abbrev pub starred : List Case
 starred =
     bound far 20
-    ∷ delivers (torus (far ∷ [])) (offer 0 ∷ steps 7) (delivery 0 1 0 6 0 ∷ []) (8 ∷ [])
+    ∷ delivers (torus (far ∷ [])) (offer 0 ∷ steps 7) (exit 0 1 0 6 0 ∷ []) (8 ∷ [])
     ∷ offsets south 0 2
     ∷ bound south 12
-    ∷ delivers (torus (south ∷ [])) (offer 0 ∷ steps 3) (delivery 0 1 0 2 0 ∷ []) (4 ∷ [])
-    ∷ delivers (torus (flow 2 2 2 2 9 1 ∷ [])) (offer 0 ∷ steps 1) (delivery 0 1 0 0 0 ∷ []) (2 ∷ [])
-    ∷ delivers meeting (offer 0 ∷ offer 1 ∷ steps 6) (delivery 1 1 0 1 0 ∷ delivery 0 1 0 5 1 ∷ []) (3 ∷ 7 ∷ [])
+    ∷ delivers (torus (south ∷ [])) (offer 0 ∷ steps 3) (exit 0 1 0 2 0 ∷ []) (4 ∷ [])
+    ∷ delivers (torus (flow 2 2 2 2 9 1 ∷ [])) (offer 0 ∷ steps 1) (exit 0 1 0 0 0 ∷ []) (2 ∷ [])
+    ∷ delivers meeting (offer 0 ∷ offer 1 ∷ steps 6) (exit 1 1 0 1 0 ∷ exit 0 1 0 5 1 ∷ []) (3 ∷ 7 ∷ [])
     ∷ window (across 10 1) (Done 2)
     ∷ window (across 2 3) (Done 6)
     ∷ window (across 1 1) (Refused 14 0)
@@ -92,5 +92,5 @@ starred =
     ∷ tokens slow (offer 0 ∷ steps 9) 0
     ∷ tokens slow (offer 0 ∷ steps 10) 1
     -- not starred: serial 2 of flow 0 leaves in cycle 2, serial 1 in cycle 5
-    ∷ delivers overtaking (offer 0 ∷ offer 0 ∷ offer 1 ∷ steps 6) (delivery 1 1 0 1 0 ∷ delivery 0 2 1 2 0 ∷ delivery 0 1 0 5 1 ∷ []) (3 ∷ 3 ∷ 7 ∷ [])
+    ∷ delivers overtaking (offer 0 ∷ offer 0 ∷ offer 1 ∷ steps 6) (exit 1 1 0 1 0 ∷ exit 0 2 1 2 0 ∷ exit 0 1 0 5 1 ∷ []) (3 ∷ 3 ∷ 7 ∷ [])
     ∷ []

@@ -14,7 +14,7 @@ use Rattle.place.specs.Place.{Place, W, N, columnOf, rowOf}
 use Rattle.router.specs.Links.{reach}
 use Rattle.router.specs.Rule.{Seen, View, deflects, Way, via, leave, wayFrom, wayIn}
 use Rattle.router.specs.Rule as Rule
-use Rattle.router.specs.Delivery.{Delivery, delivery}
+use Rattle.router.specs.Delivery.{Delivery, deliveryWith}
 use Rattle.book.specs.Line.{Stage, waiting, placed, left, Line, standsIn, leftAt, entryOf, exitOf}
 use Rattle.book.specs.Book.{Book, bucketAt, waitsFor}
 
@@ -95,7 +95,7 @@ stepped p b =
     }
 
 abbrev pub deliveryOf : Line → Delivery
-deliveryOf l = delivery (l .flow) (l .serial) (entryOf (l .stage)) (exitOf (l .stage)) (l .D)
+deliveryOf l = deliveryWith (l .flow) (l .serial) (entryOf (l .stage)) (exitOf (l .stage)) (l .D)
 
 -- the lines that left in cycle c, routers by row then column
 abbrev pub exitsOf : Plan → ℕ → List Line → List Line

@@ -17,7 +17,7 @@ use Rattle.plan.specs.declared.Answer.the-variants.{Done}
 use Rattle.place.specs.Place.{Place, W, N}
 use Rattle.router.specs.Links.{Output, feeder}
 use Rattle.router.specs.Rule.{Seen, deflects, Way, via, leave, sameWay, takes, entrant, wayIn}
-use Rattle.router.specs.Delivery.{Delivery, delivery, wordsOf}
+use Rattle.router.specs.Delivery.{Delivery, deliveryWith, wordsOf}
 use Rattle.state.specs.declared.Register.{Register}
 use Rattle.state.specs.declared.Register.the-variants.{Empty, Packet}
 use Rattle.state.specs.declared.Tally.{Tally}
@@ -90,7 +90,7 @@ stepState s =
 -- what a packet that exits in this cycle delivers
 abbrev pub leaving : (clock : ℕ) → Register → List Delivery
 leaving clock Empty = []
-leaving clock (Packet flow serial entry deflections) = delivery flow serial entry clock deflections ∷ []
+leaving clock (Packet flow serial entry deflections) = deliveryWith flow serial entry clock deflections ∷ []
 
 -- what the router in column x and row y delivers
 unfoldable pub delivered : State → (x y : ℕ) → List Delivery

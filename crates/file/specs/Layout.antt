@@ -6,7 +6,7 @@ use lib.Dec.{eqb}
 use lib.ListN.{length, getD}
 use Rattle.laws.specs.Bounded.{allBelow, tabulate}
 use Rattle.flow.specs.declared.Flow.{Flow}
-use Rattle.flow.specs.Plan.{Plan, flow}
+use Rattle.flow.specs.Plan.{Plan, flowWith}
 use Rattle.file.specs.declared.Trailer.{Trailer}
 use Rattle.file.specs.Bytes.{littleEndian2, littleEndian4}
 
@@ -42,7 +42,7 @@ trailerOf file =
 -- a record: xs, ys, xd, yd (one byte each), period P (two bytes), burst σ (one byte)
 unfoldable pub flowFrom : List ℕ → ℕ → Flow
 flowFrom file at =
-    flow (getD file at 0) (getD file (at + 1) 0) (getD file (at + 2) 0) (getD file (at + 3) 0)
+    flowWith (getD file at 0) (getD file (at + 1) 0) (getD file (at + 2) 0) (getD file (at + 3) 0)
     (littleEndian2 file (at + 4)) (getD file (at + 6) 0)
 
 -- the record's last byte

@@ -11,13 +11,13 @@ pub record Plan : Type 0 where
   pub sy : ℕ
   pub flows : List Flow
 
--- a flow by its six plan numbers, in record order
-abbrev pub flow : (xs ys xd yd P σ : ℕ) → Flow
-flow xs ys xd yd P σ = record { xs = xs; ys = ys; xd = xd; yd = yd; period = P; burst = σ }
+-- the flow with these six plan numbers, in record order
+abbrev pub flowWith : (xs ys xd yd P σ : ℕ) → Flow
+flowWith xs ys xd yd P σ = record { xs = xs; ys = ys; xd = xd; yd = yd; period = P; burst = σ }
 
 -- a flow of no plan, where a number past the last flow is asked for
 abbrev pub noFlow : Flow
-noFlow = flow 0 0 0 0 0 0
+noFlow = flowWith 0 0 0 0 0 0
 
 -- flow number f; flows are numbered from 0
 abbrev pub flowAt : Plan → ℕ → Flow

@@ -1,12 +1,14 @@
--- The sums of 01's conditions on a packet's place are small. Rests on the laws of offsets.
+-- Laws of 01's conditions on a packet's place: what puts a packet in place, what it then has, and how small their sums are. Rests
+-- on the laws of offsets.
 use mathlib.Core.Bool.{true, false, _&&_}
 use mathlib.Core.Path.{_≡_}
 use Prim.Native.Nat.{ℕ, _+_, _-_, _*_, _≤_, _<_}
 use native.Mathlib.Nat.{mul-le-mul}
 use native.Mathlib.Omega.{arith}
-use borrow.Author.Tests.{lt-leb, leb-true}
+use borrow.Author.Tests.{le-leb, lt-leb, leb-true, eq-eqb, ne-eqb}
 use lib.Dec.{leb, eqb}
 use Rattle.laws.proofs.Cases.{and-true}
+use Rattle.torus.specs.Axis.{offset, lap}
 use Rattle.torus.proofs.Axis.{offset-below}
 use Rattle.flow.specs.declared.Flow.{Flow}
 use Rattle.flow.specs.Offsets.{ΔX, ΔY}
@@ -38,3 +40,38 @@ north-deflected sx sy f x y D e ok h q =
     let front = and-true (eqb x (f .xd) && leb 1 r && leb r (ΔY sy f) && leb D (r - 1)) (eqb e (ΔX sx f + r + D * sx)) all .0 in
     let most = leb-true D (r - 1) (and-true (eqb x (f .xd) && leb 1 r && leb r (ΔY sy f)) (leb D (r - 1)) front .1) in
     omega arith
+
+-- what puts a packet in place, e cycles after its entry
+module _ (sx sy : ℕ) (f : Flow) (x y D e : ℕ) where
+  abbrev r : ℕ
+  r = rowsDone sy f y
+
+  pub in-north : x ≡ f .xd → 1 ≤ r → r ≤ ΔY sy f → D < r → e ≡ ΔX sx f + r + D * sx → inPlace sx sy f (N x y) D e ≡ true
+  unfolding inPlace
+  in-north column least most few time =
+      rw (
+        le-leb 1 e (omega arith),
+        eq-eqb x (f .xd) column,
+        le-leb 1 r least,
+        le-leb r (ΔY sy f) most,
+        le-leb D (r - 1) (omega arith),
+        eq-eqb e (ΔX sx f + r + D * sx) time,
+      )
+
+  pub in-first-row : r ≡ 0 → let j : ℕ = offset sx (f .xs) x in 1 ≤ j → j ≤ ΔX sx f → D ≡ 0 → e ≡ j → inPlace sx sy f (W x y) D e ≡ true
+  unfolding inPlace
+  in-first-row row least most none time =
+      let j : ℕ = offset sx (f .xs) x in
+      rw (le-leb 1 e (omega arith), eq-eqb r 0 row, le-leb 1 j least, le-leb j (ΔX sx f) most, eq-eqb D 0 none, eq-eqb e j time)
+
+  pub in-later-row : 1 ≤ r → r ≤ ΔY sy f → 1 ≤ D → D ≤ r → e ≡ ΔX sx f + r + (D - 1) * sx + lap sx (f .xd) x → inPlace sx sy f (W x y) D e ≡ true
+  unfolding inPlace
+  in-later-row least most some few time =
+      rw (
+        le-leb 1 e (omega arith),
+        ne-eqb r 0 (omega arith),
+        le-leb r (ΔY sy f) most,
+        le-leb 1 D some,
+        le-leb D r few,
+        eq-eqb e (ΔX sx f + r + (D - 1) * sx + lap sx (f .xd) x) time,
+      )

@@ -9,9 +9,9 @@ pub record Delivery : Type 0 where
   pub exit : ℕ
   pub D : ℕ
 
--- a delivery by its five words, in their order
-abbrev pub delivery : (flow serial entry exit D : ℕ) → Delivery
-delivery f s e t D = record { flow = f; serial = s; entry = e; exit = t; D = D }
+-- the delivery with these five words, in their order
+abbrev pub deliveryWith : (flow serial entry exit D : ℕ) → Delivery
+deliveryWith f s e t D = record { flow = f; serial = s; entry = e; exit = t; D = D }
 
 -- each exit writes five words: flow, serial, entry cycle, exit cycle, D
 abbrev pub wordsOf : List Delivery → List ℕ

@@ -7,7 +7,7 @@ use lib.ListN.{getD}
 use Rattle.laws.specs.Bounded.{tabulate}
 use Rattle.laws.specs.Grid.{grid}
 use Rattle.flow.specs.declared.Flow.{Flow}
-use Rattle.flow.specs.Plan.{Plan, flow}
+use Rattle.flow.specs.Plan.{Plan, flowWith}
 use Rattle.state.specs.declared.Register.{Register}
 use Rattle.state.specs.declared.Register.the-variants.{Empty, Packet}
 use Rattle.state.specs.Layout.{clockPlace, numberSize, registerSize, flowPlace, routerPlace}
@@ -31,7 +31,7 @@ clockIn w = getD w clockPlace 0
 -- a flow's six plan numbers at a place
 abbrev pub flowIn : List ℕ → ℕ → Flow
 flowIn w at =
-    flow (getD w at 0) (getD w (at + 1) 0) (getD w (at + 2) 0) (getD w (at + 3) 0) (getD w (at + 4) 0) (getD w (at + 5) 0)
+    flowWith (getD w at 0) (getD w (at + 1) 0) (getD w (at + 2) 0) (getD w (at + 3) 0) (getD w (at + 4) 0) (getD w (at + 5) 0)
 
 -- a flow's tokens, count, entered and waiting, behind its plan numbers
 abbrev pub tallyIn : List ℕ → ℕ → Tally
