@@ -1,3 +1,3 @@
--- The laws of reset and of writing back.
+-- The laws of reset.
 pub mod Fresh
-pub mod Accepted
+pub mod Leaves

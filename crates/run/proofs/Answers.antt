@@ -35,7 +35,7 @@ use Rattle.state.specs.Outcome.{Outcome, Lent}
 use Rattle.state.specs.Layout.{planSize}
 use Rattle.state.specs.Reset.{resetOn}
 use Rattle.state.proofs.Read.{clock-read, tally-at-read}
-use Rattle.reset.proofs.Accepted.{accepted}
+use Rattle.reset.proofs.Leaves.{reset-done}
 use Rattle.writing.proofs.Back.{file-back}
 use Rattle.run.specs.List.{offer, reset, Item, onMemory, memoryAfter, role, roleIn, IsList, fedAs, fed, due, Follows}
 use Rattle.run.specs.View.{bookState}
@@ -125,7 +125,7 @@ module _ (file words : List ℕ) (bytes : Bytes file) (done : (resetOn file word
   follows = every-list file words bytes done is l
 
   kept : Kept p b
-  kept = let a = accepted file words done in kept-run p (plan-ok file (a .value) (a .file-done) bytes) (fed p is)
+  kept = let a = reset-done file words done in kept-run p (plan-ok file (a .value) (a .file-done) bytes) (fed p is)
 
   plan-kept : planIn memory ≡ p
   plan-kept = rw (follows .state) (plan-is p b tail)
@@ -176,7 +176,7 @@ module _ (file words : List ℕ) (bytes : Bytes file) (done : (resetOn file word
 pub every-answer : EveryAnswer
 every-answer file words bytes done is l =
     let h = follows file words bytes done is l in
-    let a = accepted file words done in
+    let a = reset-done file words done in
     record {
       enters-by-window = λ x m T e past. entered file words bytes done is l x m T _ e (omega arith) past;
       lone-enters = λ x m T e lone past. entered file words bytes done is l x m T _ e (rw lone (omega arith)) past;

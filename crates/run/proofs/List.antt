@@ -32,7 +32,7 @@ use Rattle.state.specs.Layout.{planSize}
 use Rattle.state.specs.Reset.{resetOn}
 use Rattle.state.specs.Writing.{writeOn}
 use Rattle.state.proofs.Words.{length-words}
-use Rattle.reset.proofs.Accepted.{accepted, leaves}
+use Rattle.reset.proofs.Leaves.{reset-done, leaves}
 use Rattle.cycle.specs.Offer.{offerOn}
 use Rattle.cycle.specs.Step.{stepOn}
 use Rattle.run.specs.List.{Asked, offer, step, write, reset, onWords, Item, onMemory, memoryAfter, Role, feeds, between, resets, role, tooLittle, roleIn}
@@ -185,7 +185,7 @@ module _ (file words : List ℕ) (bytes : (i : ℕ) → getD file i 0 < 256) (do
   plan = planOf file
 
   fits : PlanOk plan
-  fits = let a = accepted file words done in plan-ok file (a .value) (a .file-done) bytes
+  fits = let a = reset-done file words done in plan-ok file (a .value) (a .file-done) bytes
 
   begun : (resetOn file words) .memory ≡ bookMemory plan (start plan) words
   begun =

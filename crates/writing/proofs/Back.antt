@@ -16,7 +16,7 @@ use Rattle.state.specs.Forms.{stateNumber}
 use Rattle.state.specs.Outcome.{outcome, unless, over}
 use Rattle.state.specs.Reset.{resetOn}
 use Rattle.state.specs.Writing.{writeOn}
-use Rattle.reset.proofs.Accepted.{accepted, reset-forms, reset-plan}
+use Rattle.reset.proofs.Leaves.{reset-done, reset-forms, reset-plan}
 
 -- any words that form a state with an accepted file's plan numbers give that file, whatever their clock, tallies and registers
 pub file-back : (file words target : List ℕ) (v : ℕ) → Bytes file → planAnswer file ≡ Done v
@@ -30,6 +30,6 @@ file-back file words target v bytes e forms plan room =
 pub reset-back : (file memory target : List ℕ) → Bytes file → (resetOn file memory) .answer ≡ Done 0 → length file ≤ length target
     → writeOn ((resetOn file memory) .memory) (notesOf file) target ≡ outcome (Done (length file)) (over file target)
 reset-back file memory target bytes e room =
-    let a = accepted file memory e in
+    let a = reset-done file memory e in
     file-back file ((resetOn file memory) .memory) target (a .value) bytes (a .file-done)
     (reset-forms file memory bytes e) (reset-plan file memory bytes e) room

@@ -45,7 +45,7 @@ module _ (p : Plan) (ok : PlanOk p) where
       }
 
 -- an accepted reset: the file was accepted, and the memory was long enough
-pub record Accepted (file memory : List ℕ) : Type 0 where
+pub record ResetDone (file memory : List ℕ) : Type 0 where
   pub value : ℕ
   pub file-done : planAnswer file ≡ Done value
   pub long : planSize (planOf file) ≤ length memory
@@ -63,9 +63,9 @@ done-long p memory e =
       | no h ↦ absurd (refused-done 8 0 0 (rw (lt-ltb (length memory) (planSize p) (omega arith)) at e))
     ]
 
-pub accepted : (file memory : List ℕ) → (resetOn file memory) .answer ≡ Done 0 → Accepted file memory
+pub reset-done : (file memory : List ℕ) → (resetOn file memory) .answer ≡ Done 0 → ResetDone file memory
 unfolding resetOn
-accepted file memory e =
+reset-done file memory e =
     let parts = done-parts (planAnswer file) memory (freshOn (planOf file) memory) e in
     record { value = parts .0; file-done = parts .1; long = done-long (planOf file) memory (parts .2) }
 
@@ -74,7 +74,7 @@ module _ (file memory : List ℕ) (bytes : Bytes file) (e : (resetOn file memory
   pub leaves : (resetOn file memory) .memory ≡ over (stateWords (resetState (planOf file))) memory
   unfolding resetOn unlessRefused
   leaves =
-      let a = accepted file memory e in
+      let a = reset-done file memory e in
       rw (a .file-done, le-ltb (length memory) (planSize (planOf file)) (a .long))
 
   stands : Stands 0 ((resetOn file memory) .memory) 0 (stateWords (resetState (planOf file)))
@@ -83,7 +83,7 @@ module _ (file memory : List ℕ) (bytes : Bytes file) (e : (resetOn file memory
   -- its words form a state
   pub reset-forms : stateNumber ((resetOn file memory) .memory) ≡ 0
   reset-forms =
-      let a = accepted file memory e in
+      let a = reset-done file memory e in
       words-form (resetState (planOf file)) (reset-ok (planOf file) (plan-ok file (a .value) (a .file-done) bytes)) _ stands
 
   -- and have the file's plan
