@@ -132,9 +132,9 @@ pub record Follows (p : Plan) (words memory : List ℕ) (is : List Item) : Type 
 
 -- for every plan file that reset accepts, every state memory of at least its size and every list of calls
 abbrev pub OfEveryList : ((file words memory : List ℕ) → List Item → Type 0) → Type 0
-OfEveryList Holds =
+OfEveryList Claim =
     (file words : List ℕ) → ((i : ℕ) → getD file i 0 < 256) → (resetOn file words) .answer ≡ Done 0
-    → (is : List Item) → IsList ((resetOn file words) .memory) is → Holds file words ((resetOn file words) .memory) is
+    → (is : List Item) → IsList ((resetOn file words) .memory) is → Claim file words ((resetOn file words) .memory) is
 
 abbrev pub EveryList : Type 0
 EveryList = OfEveryList (λ file. Follows (planOf file))
