@@ -1,0 +1,2 @@
+-- Laws of a flow's recent flights.
+pub mod Kept
