@@ -14,6 +14,9 @@ ghost use Rattle.cycle.specs.Seen.{shown};
 ghost use Rattle.cycle.specs.Step.{deflected};
 ghost use Rattle.cycle.specs.Sent.{deflectionsOf, isEmpty, orElse, sentEast, sentSouth, exits};
 
+// The words of an exit.
+pub const EXIT_SIZE: usize = 5;
+
 pub fn is_empty(r: Register) -> bool
     ensures { λ e. ⌜ e ≡ isEmpty r ⌝ }
 {

@@ -4,18 +4,24 @@ use mathlib.Core.List.{List, [], _∷_, _++_, map, List·Memᴰ as Mem, List·Me
 use mathlib.Core.Logic.{_⊎_, inl, inr}
 use mathlib.Core.Path.{_≡_, refl, sym, _∙_}
 use Prim.Native.Nat.{ℕ, zero, suc, _+_, _≤_, _<_}
+use native.Mathlib.Nat.{eq-or-lt-of-le, le-of-suc-le-suc}
 use native.Mathlib.Omega.{arith}
 use native.Mathlib.Decide.{ℕ-discrete}
 use borrow.Author.Tests.{eq-eqb, ne-eqb}
 use lib.Dec.{eqb}
-use Rattle.laws.specs.Bounded.{sumBelow}
+use Rattle.laws.specs.Bounded.{sumBelow, tabulate}
 use Rattle.laws.specs.Count.{one, count, any, keep, joinBelow}
-use Rattle.laws.proofs.Cases.{test}
+use Rattle.laws.proofs.Cases.{test, never}
+use Rattle.laws.proofs.Bounded.{tabulate-more}
 use Rattle.laws.proofs.Sum.{sum-same}
 
 pub one-most : (t : Bool) → one t ≤ 1
 one-most true = omega arith
 one-most false = omega arith
+
+or-true : (b : Bool) → b || true ≡ true
+or-true true = refl
+or-true false = refl
 
 module _ {A : Type 0} where
   -- a member of a list with x at its end
@@ -41,11 +47,26 @@ module _ {A : Type 0} where
 
   pub any-mem : (t : A → Bool) {x : A} (l : List A) → Mem x l → t x ≡ true → any t l ≡ true
   any-mem t (z ∷ l) (here e) h = rw (← e, h)
-  any-mem t (z ∷ l) (there m) h = rw (any-mem t l m h) (either (t z))
-    where
-      either : (b : Bool) → b || true ≡ true
-      either true = refl
-      either false = refl
+  any-mem t (z ∷ l) (there m) h = rw (any-mem t l m h) (or-true (t z))
+
+  -- a test over a tabulated list, entry by entry
+  any-snoc : (t : A → Bool) (l : List A) (x : A) → any t (l ++ (x ∷ [])) ≡ any t l || t x
+  any-snoc t [] x = elim (test (t x)) [ inl h ↦ rw h | inr h ↦ rw h ]
+  any-snoc t (z ∷ l) x = elim (test (t z)) [ inl h ↦ rw h | inr h ↦ rw h (any-snoc t l x) ]
+
+  module _ (t : A → Bool) (f : ℕ → A) where
+    pub any-more : (n : ℕ) → any t (tabulate n f) ≡ false → t (f n) ≡ false → any t (tabulate (n + 1) f) ≡ false
+    any-more n e h = rw (tabulate-more, any-snoc t (tabulate n f) (f n), e, h)
+
+    pub any-below : (n i : ℕ) → i < n → t (f i) ≡ true → any t (tabulate n f) ≡ true
+    unfolding tabulate
+    any-below zero i l h = absurd (omega arith)
+    any-below (suc n) i l h =
+        rw (any-snoc t (tabulate n f) (f n))
+        (elim (eq-or-lt-of-le (le-of-suc-le-suc l)) [ inl same ↦ rw (← same, h) (or-true (any t (tabulate i f))) | inr below ↦ rw (any-below n i below h) ])
+
+    pub none-below : (n : ℕ) → any t (tabulate n f) ≡ false → (i : ℕ) → i < n → t (f i) ≡ false
+    none-below n e i l = never (t (f i)) (λ h. false≢true (sym e ∙ any-below n i l h))
 
   pub any-count : (t : A → Bool) (l : List A) → any t l ≡ true → 1 ≤ count t l
   any-count t [] e = absurd (false≢true e)

@@ -22,9 +22,6 @@ pub struct Grid {
     pub flows: usize,
 }
 
-// The words of an exit.
-pub const EXIT_SIZE: usize = 5;
-
 // Writes what goes E to the W register to the east.
 pub fn push_east(grid: Grid, x: u32, y: u32, east: Register, next: &mut [u32])
     requires { ⌜ (OnGrid grid x y) × ((flowOf east < mostFlows) × (registersOf grid ≤ length (now next))) ⌝ }
@@ -96,7 +93,7 @@ pub fn deliver(exits: bool, south: Register, clock: u32, delivery: &mut [u32], c
     ensures { λ _. ⌜ now (delivery .exit) ≡ sets (now (delivery .entry)) (exitSize * count) (wordsOf (leaving clock (cond exits south Empty))) ⌝ }
 {
     if exits {
-        put_exit(delivery, EXIT_SIZE * (count as usize), south, clock);
+        put_exit(delivery, cycle::EXIT_SIZE * (count as usize), south, clock);
         return count + 1;
     }
     count

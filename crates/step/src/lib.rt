@@ -107,7 +107,7 @@ fn step_number(state: &[u32], delivery: &[u32]) -> u32
     ensures { λ r. ⌜ r ≡ stepNumber ((stateOf (now (state .entry))) .plan) (length (now (delivery .entry))) ((stateOf (now (state .entry))) .clock) ⌝ }
 {
     let routers = (state[state::SX] * state[state::SY]) as usize;
-    if delivery.len() < output::EXIT_SIZE * routers {
+    if delivery.len() < cycle::EXIT_SIZE * routers {
         return 10;
     }
     if state[state::CLOCK] == state::LAST_CLOCK {

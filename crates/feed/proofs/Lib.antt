@@ -1,0 +1,3 @@
+-- Laws of groups and of feeding.
+pub mod Groups
+pub mod Fed

@@ -1,0 +1,4 @@
+-- Feeding deliveries to the records of recent flights, in 02's words.
+pub mod Groups
+pub mod Feed
+pub mod Inner

@@ -1,0 +1,3 @@
+-- Walks of code by hand.
+pub mod Walk
+pub mod Names

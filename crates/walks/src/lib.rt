@@ -1,0 +1,1 @@
+// What walks of code by hand share: no code, only proofs/.
