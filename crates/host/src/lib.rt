@@ -1,5 +1,6 @@
-// The C interface, declared in include/hrt.h: thin, over the calls of plan, bounds, reset, writing, offer and step.
+// The C interface, declared in include/hrt.h: thin, over the calls of plan, bounds, reset, writing, offer, step and feed.
 use plan::Answer;
+use recent::Recent;
 ghost use mathlib.Core.Path.{_≡_};
 ghost use Rattle.bounds.specs.Bounds.{windowAnswer, flightBoundAnswer};
 ghost use Rattle.bounds.specs.Inner.{NumberMost};
@@ -9,6 +10,7 @@ ghost use Rattle.state.specs.Reset.{resetOn};
 ghost use Rattle.state.specs.Writing.{writeOn};
 ghost use Rattle.cycle.specs.Offer.{offerOn};
 ghost use Rattle.cycle.specs.Step.{stepOn};
+ghost use Rattle.feed.specs.Feed.{feedOn};
 
 // The window call's answer as a number.
 fn window_word(a: Answer) -> u32
@@ -88,4 +90,17 @@ pub extern "C" fn hrt_step(state: &mut [u32], delivery: &mut [u32]) -> u64
     ensures { λ r. ⌜ outcome r (lent (now (state .exit)) (now (delivery .exit))) ≡ inWords (stepOn (now (state .entry)) (now (delivery .entry))) ⌝ }
 {
     answer_word(step::step(state, delivery))
+}
+
+// A step's deliveries, each at its flow's record of the last L.
+#[no_mangle]
+pub extern "C" fn hrt_recent(
+    state: &[u32],
+    deliveries: &[u32],
+    records: &mut [Recent],
+    last: u32,
+) -> u64
+    ensures { λ r. ⌜ outcome r (now (records .exit)) ≡ inWords (feedOn (now (state .entry)) (now (deliveries .entry)) last (now (records .entry))) ⌝ }
+{
+    answer_word(feed::feed(state, deliveries, records, last))
 }
