@@ -31,13 +31,13 @@ use Rattle.book.proofs.Kept.{Kept, kept-run}
 use Rattle.state.specs.declared.Tally.{Tally}
 use Rattle.state.specs.Words.{stateWords}
 use Rattle.state.specs.Read.{planIn}
-use Rattle.state.specs.Outcome.{Outcome, Lent}
+use Rattle.state.specs.Outcome.{Outcome}
 use Rattle.state.specs.Layout.{planSize}
 use Rattle.state.specs.Reset.{resetOn}
 use Rattle.state.proofs.Read.{clock-read, tally-at-read}
 use Rattle.reset.proofs.Leaves.{reset-done}
 use Rattle.writing.proofs.Back.{file-back}
-use Rattle.run.specs.List.{offer, reset, Item, onMemory, memoryAfter, role, roleIn, IsList, fedAs, fed, due, Follows}
+use Rattle.run.specs.List.{Lent, offer, reset, Item, onMemory, memoryAfter, role, roleIn, IsList, fedAs, fed, due, Follows}
 use Rattle.run.specs.View.{bookState}
 use Rattle.run.specs.Answers.{bookAfter, HasRun, EnteredBy, acceptedLine, EveryAnswer}
 use Rattle.run.proofs.View.{tally-at}

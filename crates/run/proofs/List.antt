@@ -27,7 +27,7 @@ use Rattle.book.proofs.Promises.{promises}
 use Rattle.state.specs.State.{resetState}
 use Rattle.state.specs.Words.{stateWords}
 use Rattle.state.specs.Forms.{stateNumber}
-use Rattle.state.specs.Outcome.{Outcome, outcome, Lent, lent, unless, over}
+use Rattle.state.specs.Outcome.{Outcome, outcome, unless, over}
 use Rattle.state.specs.Layout.{planSize}
 use Rattle.state.specs.Reset.{resetOn}
 use Rattle.state.specs.Writing.{writeOn}
@@ -35,17 +35,19 @@ use Rattle.state.proofs.Words.{length-words}
 use Rattle.reset.proofs.Leaves.{reset-done, leaves}
 use Rattle.cycle.specs.Offer.{offerOn}
 use Rattle.cycle.specs.Step.{stepOn}
-use Rattle.run.specs.List.{Asked, offer, step, write, reset, onWords, Item, onMemory, memoryAfter, Role, feeds, between, resets, role, tooLittle, roleIn}
+use Rattle.feed.specs.Feed.{feedOn}
+use Rattle.run.specs.List.{Beside, justWords, Lent, lent, Asked, offer, step, write, recent, reset, onWords, Item, onMemory, memoryAfter}
+use Rattle.run.specs.List.{Role, feeds, between, resets, role, tooLittle, roleIn}
 use Rattle.run.specs.List.{IsList, fedAs, fed, beside, outcomes, bookMemory, due, expected}
 use Rattle.run.specs.List.{Follows, EveryList}
 use Rattle.run.specs.View.{bookState}
 use Rattle.run.proofs.Offer.{start-follows}
 use Rattle.run.proofs.Memory.{image, image-part, image-rest, number, short}
-use Rattle.run.proofs.Calls.{offer-on, step-on, write-on}
+use Rattle.run.proofs.Calls.{offer-on, step-on, write-on, recent-on}
 use Rattle.run.proofs.Reset.{reset-refused}
 
 -- the outcomes of the fed calls, in order
-abbrev fedOutcomes : Plan → (memory : List ℕ) → List Item → List (Outcome Answer (List ℕ))
+abbrev fedOutcomes : Plan → (memory : List ℕ) → List Item → List (Outcome Answer Beside)
 fedOutcomes p memory [] = []
 fedOutcomes p memory (i ∷ is) =
     map (λ call. beside (onMemory memory i)) (fedAs (roleIn p i)) ++ fedOutcomes p ((onMemory memory i) .memory .state) is
@@ -55,12 +57,12 @@ abbrev wordCount : Answer → ℕ
 wordCount (Done count) = exitSize * count
 wordCount (Refused number place) = 0
 
-abbrev deliveredBy : List (Outcome Answer (List ℕ)) → List ℕ
+abbrev deliveredBy : List (Outcome Answer Beside) → List ℕ
 deliveredBy [] = []
-deliveredBy (o ∷ os) = take (wordCount (o .answer)) (o .memory) ++ deliveredBy os
+deliveredBy (o ∷ os) = take (wordCount (o .answer)) (o .memory .words) ++ deliveredBy os
 
-abbrev answers : List (Outcome Answer (List ℕ)) → List Answer
-answers os = map (λ (o : Outcome Answer (List ℕ)). o .answer) os
+abbrev answers : List (Outcome Answer Beside) → List Answer
+answers os = map (λ (o : Outcome Answer Beside). o .answer) os
 
 -- the words that a fed call's answer counts are those that the book delivers
 fed-words : (p : Plan) (b : Book) (c : Call) (other : List ℕ) → let now : Fed = feed p b c in
@@ -77,7 +79,7 @@ module _ (p : Plan) (words : List ℕ) where
   tail = drop (planSize p) words
 
   -- a call lent the first words of a state memory, which leaves them as they were
-  unchanged : (memory : List ℕ) (i : Item) (a : Answer) (other : List ℕ) → let part = take (i .lentWords) memory in
+  unchanged : (memory : List ℕ) (i : Item) (a : Answer) (other : Beside) → let part = take (i .lentWords) memory in
       onWords (i .asked) part ≡ outcome a (lent part other) → onMemory memory i ≡ outcome a (lent memory other)
   unchanged memory i a other e = rw (e, take-append-drop (i .lentWords) memory)
 
@@ -88,11 +90,11 @@ module _ (p : Plan) (words : List ℕ) where
     -- what an item does in this role: it leaves what is due, and the words of the book that it was fed to
     abbrev pub Does : Item → Role → Type 0
     Does i r =
-        let o : Outcome Answer (List ℕ) = due p b words i r in
+        let o : Outcome Answer Beside = due p b words i r in
         onMemory m i ≡ outcome (o .answer) (lent (image p (runFrom p b (fedAs r) .book) tail) (o .memory))
 
     -- a call lent the whole state, and words behind it or not
-    enough : (b′ : Book) (i : Item) (a : Answer) (other : List ℕ) → planSize p ≤ i .lentWords
+    enough : (b′ : Book) (i : Item) (a : Answer) (other : Beside) → planSize p ≤ i .lentWords
         → ((tail : List ℕ) → onWords (i .asked) (image p b tail) ≡ outcome a (lent (image p b′ tail) other))
         → onMemory m i ≡ outcome a (lent (image p b′ tail) other)
     enough b′ i a other h does =
@@ -116,20 +118,23 @@ module _ (p : Plan) (words : List ℕ) where
       does-reset : (file : List ℕ) → May (reset file) → Does (item (reset file)) resets
       does-reset file may =
           let part = take n m in
-          unchanged m (item (reset file)) _ _ (ap (λ w. outcome ((resetOn file part) .answer) (lent w [])) (reset-refused file part (may file refl)))
+          unchanged m (item (reset file)) _ _ (ap (λ w. outcome ((resetOn file part) .answer) (lent w (justWords []))) (reset-refused file part (may file refl)))
 
       does-enough : (c : Asked) → planSize p ≤ n → May c → Does (item c) (role c)
       does-enough (offer f) h may = enough (feed p b (Feed.offer f) .book) (item (offer f)) _ _ h (λ t. offer-on p b k t f)
       does-enough (step delivery) h may =
           enough (feed p b (Feed.step (length delivery)) .book) (item (step delivery)) _ _ h (λ t. step-on p b k t delivery)
       does-enough (write notes target) h may = enough b (item (write notes target)) _ _ h (λ t. write-on p b k t notes target)
+      does-enough (recent deliveries last records) h may =
+          enough b (item (recent deliveries last records)) _ _ h (λ t. recent-on p b k t deliveries last records)
       does-enough (reset file) h may = does-reset file may
 
       does-little : (c : Asked) → n < planSize p → May c → Does (item c) (tooLittle (role c))
-      unfolding offerOn stepOn writeOn unless
+      unfolding offerOn stepOn writeOn feedOn unless
       does-little (offer f) few may = unchanged m (item (offer f)) _ _ (rw (short p b tail k n few))
       does-little (step delivery) few may = unchanged m (item (step delivery)) _ _ (rw (short p b tail k n few))
       does-little (write notes target) few may = unchanged m (item (write notes target)) _ _ (rw (short p b tail k n few))
+      does-little (recent deliveries last records) few may = unchanged m (item (recent deliveries last records)) _ _ (rw (short p b tail k n few))
       does-little (reset file) few may = does-reset file may
 
     pub does : (i : Item) → May (i .lentWords) (i .asked) → Does i (roleIn p i)
@@ -145,14 +150,14 @@ module _ (p : Plan) (words : List ℕ) where
     keeps resets = k
 
   -- outcomes, those of the fed calls and a state memory, beside what a run of the book has
-  record Right (outs due fed : List (Outcome Answer (List ℕ))) (memory : List ℕ) (r : Run) : Type 0 where
+  record Right (outs due fed : List (Outcome Answer Beside)) (memory : List ℕ) (r : Run) : Type 0 where
     answered : outs ≡ due
     replied : answers fed ≡ r .replies
     delivered : deliveredBy fed ≡ wordsOf (r .delivered)
     state : memory ≡ image p (r .book) tail
 
   -- a call in any role, then the rest
-  then : (b : Book) (i : Item) (r : Role) {outs later fed : List (Outcome Answer (List ℕ))} {memory : List ℕ} (cs : List Call)
+  then : (b : Book) (i : Item) (r : Role) {outs later fed : List (Outcome Answer Beside)} {memory : List ℕ} (cs : List Call)
       → Right outs later fed memory (runFrom p (runFrom p b (fedAs r) .book) cs)
       → let o = due p b words i r in Right (o ∷ outs) (o ∷ later) (map (λ call. o) (fedAs r) ++ fed) memory (runFrom p b (fedAs r ++ cs))
   then b i (feeds call other) cs g =
@@ -163,7 +168,7 @@ module _ (p : Plan) (words : List ℕ) where
         state = g .state;
       }
   then b i (between tells other) cs g =
-      record { answered = ap (λ rest. tells p b other ∷ rest) (g .answered); replied = g .replied; delivered = g .delivered; state = g .state }
+      record { answered = ap (λ rest. tells p b ∷ rest) (g .answered); replied = g .replied; delivered = g .delivered; state = g .state }
   then b i resets cs g =
       record { answered = ap (λ rest. due p b words i resets ∷ rest) (g .answered); replied = g .replied; delivered = g .delivered; state = g .state }
 

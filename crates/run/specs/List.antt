@@ -20,27 +20,52 @@ use Rattle.book.specs.Feed as Feed
 use Rattle.book.specs.Promises.{Promises}
 use Rattle.state.specs.Words.{stateWords}
 use Rattle.state.specs.Forms.{stateNumber}
-use Rattle.state.specs.Outcome.{Outcome, outcome, Lent, lent, refused, over}
+use Rattle.state.specs.Outcome.{Outcome, outcome, refused, over}
 use Rattle.state.specs.Layout.{planSize}
 use Rattle.state.specs.Reset.{resetOn}
 use Rattle.state.specs.Writing.{bytesOn, writeOn}
 use Rattle.cycle.specs.Offer.{offerOn}
 use Rattle.cycle.specs.Step.{stepOn}
+use Rattle.recent.specs.declared.Recent.{Recent}
+use Rattle.feed.specs.Feed.{plannedOn, feedOn}
 use Rattle.run.specs.View.{bookState}
+
+-- what is lent to a call beside the state memory: a step's delivery memory or the target of writing; records of recent flights
+pub record Beside : Type 0 where
+  pub words : List ℕ
+  pub records : List Recent
+
+abbrev pub justWords : List ℕ → Beside
+justWords words = record { words = words; records = [] }
+
+abbrev pub justRecords : List Recent → Beside
+justRecords records = record { words = []; records = records }
+
+-- all memory lent to a call
+pub record Lent : Type 0 where
+  pub state : List ℕ
+  pub other : Beside
+
+abbrev pub lent : (state : List ℕ) → (other : Beside) → Lent
+lent state other = record { state = state; other = other }
 
 -- a call, with what is lent to it beside the state memory
 pub data Asked : Type 0 where
   offer : (flow : ℕ) → Asked
   step : (delivery : List ℕ) → Asked
   write : (notes target : List ℕ) → Asked
+  recent : (deliveries : List ℕ) → (last : ℕ) → (records : List Recent) → Asked
   reset : (file : List ℕ) → Asked
 
 -- what a call does to the words lent to it, by the definitions to which the contracts of the code set answer and memory equal
 abbrev pub onWords : Asked → (words : List ℕ) → Outcome Answer Lent
-onWords (offer flow) words = outcome ((offerOn words flow) .answer) (lent ((offerOn words flow) .memory) [])
-onWords (step delivery) words = stepOn words delivery
-onWords (write notes target) words = outcome ((writeOn words notes target) .answer) (lent words ((writeOn words notes target) .memory))
-onWords (reset file) words = outcome ((resetOn file words) .answer) (lent ((resetOn file words) .memory) [])
+onWords (offer flow) words = outcome ((offerOn words flow) .answer) (lent ((offerOn words flow) .memory) (justWords []))
+onWords (step delivery) words =
+    outcome ((stepOn words delivery) .answer) (lent ((stepOn words delivery) .memory .state) (justWords ((stepOn words delivery) .memory .other)))
+onWords (write notes target) words = outcome ((writeOn words notes target) .answer) (lent words (justWords ((writeOn words notes target) .memory)))
+onWords (recent deliveries last records) words =
+    outcome ((feedOn words deliveries last records) .answer) (lent words (justRecords ((feedOn words deliveries last records) .memory)))
+onWords (reset file) words = outcome ((resetOn file words) .answer) (lent ((resetOn file words) .memory) (justWords []))
 
 -- an item of a list: a call, and how many words of the state memory it is lent
 pub record Item : Type 0 where
@@ -62,19 +87,27 @@ memoryAfter memory (i ∷ is) = memoryAfter ((onMemory memory i) .memory .state)
 -- a reset. The other memory is what is lent to it beside the state memory
 pub data Role : Type 0 where
   feeds : Call → (other : List ℕ) → Role
-  between : (Plan → Book → (other : List ℕ) → Outcome Answer (List ℕ)) → (other : List ℕ) → Role
+  between : (Plan → Book → Outcome Answer Beside) → (other : Beside) → Role
   resets : Role
+
+-- the outcome of a call on one memory, among all that is lent
+abbrev pub toWords : Outcome Answer (List ℕ) → Outcome Answer Beside
+toWords o = outcome (o .answer) (justWords (o .memory))
+
+abbrev pub toRecords : Outcome Answer (List Recent) → Outcome Answer Beside
+toRecords o = outcome (o .answer) (justRecords (o .memory))
 
 abbrev pub role : Asked → Role
 role (offer flow) = feeds (Feed.offer flow) []
 role (step delivery) = feeds (Feed.step (length delivery)) delivery
-role (write notes target) = between (λ p b. bytesOn (planBytes notes p)) target
+role (write notes target) = between (λ p b. toWords (bytesOn (planBytes notes p) target)) (justWords target)
+role (recent deliveries last records) = between (λ p b. toRecords (plannedOn p deliveries last records)) (justRecords records)
 role (reset file) = resets
 
 -- a call on the state that is lent too little of it comes between, refused with 8 and with all as it was
 abbrev pub tooLittle : Role → Role
-tooLittle (feeds call other) = between (λ p b. refused 8) other
-tooLittle (between tells other) = between (λ p b. refused 8) other
+tooLittle (feeds call other) = between (λ p b. refused 8 (justWords other)) (justWords other)
+tooLittle (between tells other) = between (λ p b. refused 8 other) other
 tooLittle resets = resets
 
 abbrev pub roleIn : Plan → Item → Role
@@ -97,10 +130,10 @@ fed p [] = []
 fed p (i ∷ is) = fedAs (roleIn p i) ++ fed p is
 
 -- each call's answer, and its other memory afterwards
-abbrev pub beside : Outcome Answer Lent → Outcome Answer (List ℕ)
+abbrev pub beside : Outcome Answer Lent → Outcome Answer Beside
 beside o = outcome (o .answer) (o .memory .other)
 
-abbrev pub outcomes : (memory : List ℕ) → List Item → List (Outcome Answer (List ℕ))
+abbrev pub outcomes : (memory : List ℕ) → List Item → List (Outcome Answer Beside)
 outcomes memory [] = []
 outcomes memory (i ∷ is) = beside (onMemory memory i) ∷ outcomes ((onMemory memory i) .memory .state) is
 
@@ -110,12 +143,12 @@ bookMemory p b words = stateWords (bookState p b) ++ drop (planSize p) words
 
 -- what the book has for a call. A fed one: its answer, and the words delivered in front of the other memory, whose rest is as lent.
 -- A reset: what it answers on the book's words
-abbrev pub due : Plan → Book → (words : List ℕ) → Item → Role → Outcome Answer (List ℕ)
-due p b words i (feeds call other) = outcome ((feed p b call) .reply) (over (wordsOf ((feed p b call) .delivered)) other)
-due p b words i (between tells other) = tells p b other
+abbrev pub due : Plan → Book → (words : List ℕ) → Item → Role → Outcome Answer Beside
+due p b words i (feeds call other) = outcome ((feed p b call) .reply) (justWords (over (wordsOf ((feed p b call) .delivered)) other))
+due p b words i (between tells other) = tells p b
 due p b words i resets = beside (onMemory (bookMemory p b words) i)
 
-abbrev pub expected : Plan → Book → (words : List ℕ) → List Item → List (Outcome Answer (List ℕ))
+abbrev pub expected : Plan → Book → (words : List ℕ) → List Item → List (Outcome Answer Beside)
 expected p b words [] = []
 expected p b words (i ∷ is) = due p b words i (roleIn p i) ∷ expected p ((runFrom p b (fedAs (roleIn p i))) .book) words is
 
