@@ -2,3 +2,4 @@
 pub mod View
 pub mod List
 pub mod Answers
+pub mod Recent

@@ -2,7 +2,7 @@
 use mathlib.Core.Path.{_≡_, sym, _∙_}
 use borrow.Author.Needs.{needs}
 use Rattle.state.proofs.Forms.{state-facts}
-use Rattle.feed.proofs.Fed.{first-refused, first-passes}
+use Rattle.feed.proofs.Accepted.{first-refused, first-passes}
 use Rattle.feed.proofs.call_number.Statement.{statement}
 use Rattle.feed.proofs.call_number.Tie as tie
 

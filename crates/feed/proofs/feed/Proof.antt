@@ -15,7 +15,7 @@ use Rattle.recent.proofs.Recent as T
 use Rattle.state.specs.Outcome.{outcome}
 use Rattle.feed.specs.Feed.{feedOn}
 use Rattle.feed.specs.Inner.{fedFirst, callNumber, groupsFed}
-use Rattle.feed.proofs.Fed.{feedable, fed-by-number}
+use Rattle.feed.proofs.Accepted.{feedable, fed-by-number}
 use Rattle.feed.proofs.call_number as call-number
 use Rattle.feed.proofs.call_number.Symbol as call-number-def
 use Rattle.feed.proofs.call_number.Met as call-number-thm

@@ -1,5 +1,5 @@
 -- `groups_fed`: the definition's own test.
-use Rattle.feed.proofs.Fed.{none-fed, all-fed}
+use Rattle.feed.proofs.Accepted.{none-fed, all-fed}
 use Rattle.feed.proofs.groups_fed.Statement.{statement}
 use Rattle.feed.proofs.groups_fed.Tie as tie
 
