@@ -1,4 +1,4 @@
--- The engine's definitions follow the packet book; and a step keeps any state.
+-- The engine's definitions follow the packet book; and a step keeps any state, and delivers what is genuine.
 pub mod View
 pub mod Outputs
 pub mod Step
@@ -12,3 +12,4 @@ pub mod List
 pub mod Answers
 pub mod Carried
 pub mod Keeps
+pub mod Genuine
