@@ -1,5 +1,5 @@
 -- The two laws of the regulator: how often a flow enters in neighbouring cycles, and how long it is without a token; and
--- what a bucket that fits has. What they rest on from reset is `Regulated`, whose fields nobody else reads. Rests on specs/Regulator.
+-- what a bucket that fits has and keeps. What they rest on from reset is `Regulated`, whose fields nobody else reads. Rests on specs/Regulator.
 use mathlib.Core.Bool.{Bool, true, false, cond, _&&_}
 use mathlib.Core.Logic.{_⊎_, inl, inr}
 use mathlib.Core.Path.{_≡_, refl, ap, _∙_}
@@ -7,7 +7,7 @@ use Prim.Native.Nat.{ℕ, _+_, _-_, _*_, _≤_, _<_}
 use native.Mathlib.Nat.{le-div-iff-mul-le, mul-le-mul-right}
 use native.Mathlib.Decide.{ℕ-discrete, decLe, decLt}
 use native.Mathlib.Omega.{arith}
-use borrow.Author.Tests.{lt-ltb, le-ltb, le-leb, eq-eqb, ne-eqb, ltb-true}
+use borrow.Author.Tests.{lt-ltb, le-ltb, le-leb, eq-eqb, ne-eqb, ltb-true, leb-true, eqb-true}
 use lib.Dec.{ltb, leb}
 use Rattle.laws.specs.Count.{one}
 use Rattle.laws.proofs.Cases.{and-true}
@@ -19,11 +19,15 @@ use Rattle.bucket.specs.Curve.{curve}
 abbrev fill : ℕ → Bucket → ℕ
 fill period b = b .tokens * period + b .count
 
--- b is a flow's bucket at clock c, c cycles after reset, and n a t is how often the flow entered in the cycles from a to t − 1
-pub record Regulated (burst period : ℕ) (b : Bucket) (c : ℕ) (n : ℕ → ℕ → ℕ) : Type 0 where
+-- a bucket that fits, told without tests
+record Fitting (burst period : ℕ) (b : Bucket) : Type 0 where
   tokens-most : b .tokens ≤ burst
   count-below : b .count < period
   rests : b .tokens ≡ burst → b .count ≡ 0
+
+-- b is a flow's bucket at clock c, c cycles after reset, and n a t is how often the flow entered in the cycles from a to t − 1
+pub record Regulated (burst period : ℕ) (b : Bucket) (c : ℕ) (n : ℕ → ℕ → ℕ) : Type 0 where
+  fitting : Fitting burst period b
   filled : 1 ≤ fill period b
   so-far : (a : ℕ) → a ≤ c → fill period b + n a c * period + a ≤ burst * period + c
   before : (a t : ℕ) → a < t → t ≤ c → n a t * period + 1 + a ≤ burst * period + t
@@ -39,22 +43,61 @@ data Counted (burst period : ℕ) (b r : Bucket) : Type 0 where
   stays : b .tokens ≡ burst → r .tokens ≡ b .tokens → r .count ≡ b .count → Counted burst period b r
 
 module _ (burst period : ℕ) where
-  counted : (b : Bucket) → b .tokens ≤ burst → b .count < period → Counted burst period b (afterCount burst period b)
+  fitting : (b : Bucket) → bucketFits burst period b ≡ true → Fitting burst period b
+  unfolding bucketFits
+  fitting b e =
+      let all = and-true (leb (b .tokens) burst && ltb (b .count) period) _ e in
+      let both = and-true (leb (b .tokens) burst) (ltb (b .count) period) (all .0) in
+      record {
+        tokens-most = leb-true _ _ (both .0);
+        count-below = ltb-true _ _ (both .1);
+        rests = λ full. eqb-true (b .count) 0 (rw (eq-eqb (b .tokens) burst full) at (all .1));
+      }
+
+  fitting-fits : (b : Bucket) → Fitting burst period b → bucketFits burst period b ≡ true
+  unfolding bucketFits
+  fitting-fits b h =
+      rw (le-leb (b .tokens) burst (h .tokens-most), lt-ltb (b .count) period (h .count-below))
+      (elim (ℕ-discrete (b .tokens) burst) [
+        | yes e ↦ rw (eq-eqb (b .tokens) burst e, eq-eqb (b .count) 0 (h .rests e))
+        | no e ↦ rw (ne-eqb (b .tokens) burst e)
+      ])
+
+  counted : (b : Bucket) → Fitting burst period b → Counted burst period b (afterCount burst period b)
   unfolding afterCount
-  counted b t c =
+  counted b h =
       elim (decLt (b .tokens) burst) [
         | yes l ↦ elim (ℕ-discrete (b .count + 1) period) [
           | yes e ↦ rw (lt-ltb (b .tokens) burst l, eq-eqb (b .count + 1) period e) (gives l e refl refl)
-          | no e ↦ rw (lt-ltb (b .tokens) burst l, ne-eqb (b .count + 1) period e) (runs l (omega arith) refl refl)
+          | no e ↦ rw (lt-ltb (b .tokens) burst l, ne-eqb (b .count + 1) period e) (runs l (omega (arith, h .count-below)) refl refl)
         ]
-        | no l ↦ rw (le-ltb (b .tokens) burst (omega arith)) (stays (omega arith) refl refl)
+        | no l ↦ rw (le-ltb (b .tokens) burst (omega arith)) (stays (omega (arith, h .tokens-most)) refl refl)
       ]
 
-  fill-most : (b : Bucket) → b .tokens ≤ burst → b .count < period → (b .tokens ≡ burst → b .count ≡ 0) → fill period b ≤ burst * period
-  fill-most b t c full =
+  -- a bucket that fits, after the counter, after an entry or none, and after a cycle
+  counted-fits : (b r : Bucket) → Fitting burst period b → Counted burst period b r → Fitting burst period r
+  counted-fits b r h (gives l e t c) = record { tokens-most = omega arith; count-below = omega arith; rests = λ x. c }
+  counted-fits b r h (runs l e t c) = record { tokens-most = omega arith; count-below = omega arith; rests = λ x. absurd (omega arith) }
+  counted-fits b r h (stays l t c) = record { tokens-most = omega arith; count-below = omega (arith, h .count-below); rests = λ x. c ∙ h .rests l }
+
+  spent-fits : (e : Bool) (b : Bucket) → Fitting burst period b → (e ≡ true → 1 ≤ b .tokens) → Fitting burst period (cond e (afterSpend b) b)
+  spent-fits true b h token =
+      let some = token refl in
+      let most = h .tokens-most in
+      record { tokens-most = omega arith; count-below = h .count-below; rests = λ x. absurd (omega arith) }
+  spent-fits false b h token = h
+
+  cycled-fits : (e : Bool) (b : Bucket) → Fitting burst period b → (e ≡ true → 1 ≤ b .tokens) → Fitting burst period (afterCycle burst period e b)
+  unfolding afterCycle
+  cycled-fits e b h token = let spent = spent-fits e b h token in counted-fits _ _ spent (counted _ spent)
+
+  fill-most : (b : Bucket) → Fitting burst period b → fill period b ≤ burst * period
+  fill-most b h =
       elim (ℕ-discrete (b .tokens) burst) [
-        | yes e ↦ omega (arith, full e, ap (λ (x : ℕ). x * period) e)
-        | no e ↦ let l : b .tokens + 1 ≤ burst = omega arith in omega (arith, mul-le-mul-right period l)
+        | yes e ↦ omega (arith, h .rests e, ap (λ (x : ℕ). x * period) e)
+        | no e ↦
+            let l : b .tokens + 1 ≤ burst = omega (arith, h .tokens-most) in
+            omega (arith, h .count-below, mul-le-mul-right period l)
       ]
 
   -- no wait with a token; without one, until the counter is round
@@ -71,65 +114,44 @@ module _ (burst period : ℕ) where
 
   -- a bucket r after a cycle of b in which the flow entered or not
   record Cycled (e : Bool) (b r : Bucket) : Type 0 where
-    tokens-most : r .tokens ≤ burst
-    count-below : r .count < period
-    rests : r .tokens ≡ burst → r .count ≡ 0
     fill-more : fill period r + one e * period ≤ fill period b + 1
     filled : 1 ≤ fill period r
 
   -- the counter's part: it is not full and nothing was spent, or it has room
-  ran : (b r : Bucket) → Counted burst period b r → b .tokens ≤ burst → b .count < period → (b .tokens ≡ burst → b .count ≡ 0)
-      → (b .tokens < burst) ⊎ (1 ≤ fill period b) → Cycled false b r
-  ran b r (gives l e t c) m u full h =
+  ran : (b r : Bucket) → Counted burst period b r → (b .tokens < burst) ⊎ (1 ≤ fill period b) → Cycled false b r
+  ran b r (gives l e t c) h =
       let fills : r .tokens * period ≡ (b .tokens + 1) * period = ap (λ (x : ℕ). x * period) t in
-      record { tokens-most = omega arith; count-below = omega arith; rests = λ x. c; fill-more = omega arith; filled = omega arith }
-  ran b r (runs l e t c) m u full h =
+      record { fill-more = omega arith; filled = omega arith }
+  ran b r (runs l e t c) h =
       let fills : r .tokens * period ≡ b .tokens * period = ap (λ (x : ℕ). x * period) t in
-      record { tokens-most = omega arith; count-below = omega arith; rests = λ x. absurd (omega arith); fill-more = omega arith; filled = omega arith }
-  ran b r (stays l t c) m u full h =
+      record { fill-more = omega arith; filled = omega arith }
+  ran b r (stays l t c) h =
       let fills : r .tokens * period ≡ b .tokens * period = ap (λ (x : ℕ). x * period) t in
-      record {
-        tokens-most = omega arith;
-        count-below = omega arith;
-        rests = λ x. c ∙ full l;
-        fill-more = omega arith;
-        filled = elim h [ inl x ↦ absurd (omega arith) | inr x ↦ omega arith ];
-      }
+      record { fill-more = omega arith; filled = elim h [ inl x ↦ absurd (omega arith) | inr x ↦ omega arith ] }
 
   module _ (b : Bucket) (c : ℕ) (n : ℕ → ℕ → ℕ) (held : Regulated burst period b c n) where
     cycled : (e : Bool) → (e ≡ true → 1 ≤ b .tokens) → Cycled e b (afterCycle burst period e b)
     unfolding afterCycle
     cycled true token =
         let some : 1 ≤ b .tokens = token refl in
-        let m : b .tokens - 1 ≤ burst = omega (arith, held .tokens-most) in
-        let room : b .tokens - 1 < burst = omega (arith, held .tokens-most) in
-        let ran′ = ran (afterSpend b) _ (counted (afterSpend b) m (held .count-below)) m (held .count-below) (λ x. absurd (omega arith)) (inl room) in
+        let room : b .tokens - 1 < burst = omega (arith, held .fitting .tokens-most) in
+        let ran′ = ran (afterSpend b) _ (counted (afterSpend b) (spent-fits true b (held .fitting) token)) (inl room) in
         let spent : b .tokens * period ≡ (b .tokens - 1 + 1) * period = ap (λ (x : ℕ). x * period) (omega arith) in
-        record {
-          tokens-most = ran′ .tokens-most;
-          count-below = ran′ .count-below;
-          rests = ran′ .rests;
-          fill-more = omega (arith, ran′ .fill-more);
-          filled = ran′ .filled;
-        }
-    cycled false token = ran b _ (counted b (held .tokens-most) (held .count-below)) (held .tokens-most) (held .count-below) (held .rests) (inr (held .filled))
+        record { fill-more = omega (arith, ran′ .fill-more); filled = ran′ .filled }
+    cycled false token = ran b _ (counted b (held .fitting)) (inr (held .filled))
 
     -- a cycle, and the entries so far with the one of this cycle
     pub cycle : (e : Bool) → (e ≡ true → 1 ≤ b .tokens) → (n′ : ℕ → ℕ → ℕ)
         → ((a t : ℕ) → t ≤ c → n′ a t ≡ n a t) → ((a : ℕ) → a ≤ c → n′ a (c + 1) ≡ n a c + one e) → n′ (c + 1) (c + 1) ≡ 0
         → Regulated burst period (afterCycle burst period e b) (c + 1) n′
     cycle e token n′ old new none =
-        record {
-          tokens-most = r .tokens-most;
-          count-below = r .count-below;
-          rests = r .rests;
-          filled = r .filled;
-          so-far = far;
-          before = past;
-        }
+        record { fitting = after; filled = r .filled; so-far = far; before = past }
       where
         r : Cycled e b (afterCycle burst period e b)
         r = cycled e token
+
+        after : Fitting burst period (afterCycle burst period e b)
+        after = cycled-fits e b (held .fitting) token
 
         far : (a : ℕ) → a ≤ c + 1 → fill period (afterCycle burst period e b) + n′ a (c + 1) * period + a ≤ burst * period + (c + 1)
         far a l =
@@ -137,7 +159,7 @@ module _ (burst period : ℕ) where
               | yes m ↦ omega (arith, held .so-far a m, ap (λ (x : ℕ). x * period) (new a m), r .fill-more)
               | no m ↦
                   let now : a ≡ c + 1 = omega arith in
-                  rw (now, none) (omega (arith, fill-most (afterCycle burst period e b) (r .tokens-most) (r .count-below) (r .rests)))
+                  rw (now, none) (omega (arith, fill-most (afterCycle burst period e b) after))
             ]
 
         past : (a t : ℕ) → a < t → t ≤ c + 1 → n′ a t * period + 1 + a ≤ burst * period + t
@@ -151,9 +173,7 @@ module _ (burst period : ℕ) where
     pub recount : (n′ : ℕ → ℕ → ℕ) → ((a t : ℕ) → n′ a t ≡ n a t) → Regulated burst period b c n′
     recount n′ same =
         record {
-          tokens-most = held .tokens-most;
-          count-below = held .count-below;
-          rests = held .rests;
+          fitting = held .fitting;
           filled = held .filled;
           so-far = λ a l. rw (same a c) (held .so-far a l);
           before = λ a t l m. rw (same a t) (held .before a t l m);
@@ -169,24 +189,24 @@ module _ (burst period : ℕ) where
               let over : (n a t - burst) * period ≤ d =
               let split : n a t * period ≡ (n a t - burst + burst) * period = ap (λ (x : ℕ). x * period) (omega arith) in
               omega (arith, held .before a t l m) in
-              omega (arith, le-div-iff-mul-le {k = period} {x = n a t - burst} {y = d} (omega (arith, held .count-below)) .1 over)
+              omega (arith, le-div-iff-mul-le {k = period} {x = n a t - burst} {y = d} (omega (arith, held .fitting .count-below)) .1 over)
         ]
 
     -- a flow is without a token for at most P − 1 cycles
     pub wait-most : wait period b < period
     wait-most =
         elim (wait-cases b) [
-          | inl h ↦ omega (arith, held .count-below)
-          | inr h ↦ omega (arith, held .count-below, held .filled, ap (λ (x : ℕ). x * period) (h .0))
+          | inl h ↦ omega (arith, held .fitting .count-below)
+          | inr h ↦ omega (arith, held .fitting .count-below, held .filled, ap (λ (x : ℕ). x * period) (h .0))
         ]
 
     pub wait-some : b .tokens ≡ 0 → 1 ≤ wait period b
-    wait-some none = elim (wait-cases b) [ inl h ↦ absurd (omega arith) | inr h ↦ omega (arith, held .count-below) ]
+    wait-some none = elim (wait-cases b) [ inl h ↦ absurd (omega arith) | inr h ↦ omega (arith, held .fitting .count-below) ]
 
     -- without an entry the wait is one less each cycle, and a token stays
     pub wait-less : 1 ≤ burst → b .tokens ≡ 0 → wait period (afterCycle burst period false b) + 1 ≡ wait period b
     unfolding afterCycle
-    wait-less h none = less (counted b (held .tokens-most) (held .count-below)) (wait-cases (afterCount burst period b)) (wait-cases b)
+    wait-less h none = less (counted b (held .fitting)) (wait-cases (afterCount burst period b)) (wait-cases b)
       where
         less : Counted burst period b (afterCount burst period b) → Waits (afterCount burst period b) → Waits b
             → wait period (afterCount burst period b) + 1 ≡ wait period b
@@ -199,7 +219,7 @@ module _ (burst period : ℕ) where
 
     pub token-stays : 1 ≤ b .tokens → 1 ≤ (afterCycle burst period false b) .tokens
     unfolding afterCycle
-    token-stays some = stay (counted b (held .tokens-most) (held .count-below))
+    token-stays some = stay (counted b (held .fitting))
       where
         stay : Counted burst period b (afterCount burst period b) → 1 ≤ (afterCount burst period b) .tokens
         stay (gives l e t c) = omega arith
@@ -207,21 +227,17 @@ module _ (burst period : ℕ) where
         stay (stays l t c) = omega arith
 
     pub fits : bucketFits burst period b ≡ true
-    unfolding bucketFits
-    fits =
-        rw (le-leb (b .tokens) burst (held .tokens-most), lt-ltb (b .count) period (held .count-below))
-        (elim (ℕ-discrete (b .tokens) burst) [
-          | yes e ↦ rw (eq-eqb (b .tokens) burst e, eq-eqb (b .count) 0 (held .rests e))
-          | no e ↦ rw (ne-eqb (b .tokens) burst e)
-        ])
+    fits = fitting-fits b (held .fitting)
 
-  -- a bucket that fits, and the one at reset
+  -- a bucket that fits has a count below the period, and fits after a cycle
   pub fitting-count : (b : Bucket) → bucketFits burst period b ≡ true → b .count < period
-  unfolding bucketFits
-  fitting-count b e =
-      let both = and-true (leb (b .tokens) burst && ltb (b .count) period) _ e .0 in
-      ltb-true _ _ (and-true (leb (b .tokens) burst) (ltb (b .count) period) both .1)
+  fitting-count b e = fitting b e .count-below
 
+  pub cycle-fits : (e : Bool) (b : Bucket) → bucketFits burst period b ≡ true → (e ≡ true → 1 ≤ b .tokens)
+      → bucketFits burst period (afterCycle burst period e b) ≡ true
+  cycle-fits e b h token = fitting-fits _ (cycled-fits e b (fitting b h) token)
+
+  -- the bucket at reset
   pub full-fits : 1 ≤ period → bucketFits burst period (fullBucket burst) ≡ true
   unfolding bucketFits
   full-fits k = rw (le-leb burst burst (omega arith), lt-ltb 0 period k, eq-eqb burst burst refl)
@@ -229,9 +245,7 @@ module _ (burst period : ℕ) where
   pub reset : 1 ≤ burst → 1 ≤ period → (n : ℕ → ℕ → ℕ) → n 0 0 ≡ 0 → Regulated burst period (fullBucket burst) 0 n
   reset h k n none =
       record {
-        tokens-most = omega arith;
-        count-below = k;
-        rests = λ e. refl;
+        fitting = record { tokens-most = omega arith; count-below = k; rests = λ e. refl };
         filled = omega (arith, mul-le-mul-right period h);
         so-far = λ a l. let first : a ≡ 0 = omega arith in rw (first, none) (omega arith);
         before = λ a t l m. absurd (omega arith);

@@ -31,6 +31,20 @@ module _ {A : Type 0} where
   mem-snoc (z ∷ l) (here e) = inl (here e)
   mem-snoc (z ∷ l) (there m) = elim (mem-snoc l m) [ inl n ↦ inl (there n) | inr e ↦ inr e ]
 
+  -- a member of two lists, or of several, one after the other
+  pub mem-append : {x : A} (l : List A) {m : List A} → Mem x (l ++ m) → Mem x l ⊎ Mem x m
+  mem-append [] i = inr i
+  mem-append (z ∷ l) (here e) = inl (here e)
+  mem-append (z ∷ l) (there i) = elim (mem-append l i) [ inl n ↦ inl (there n) | inr n ↦ inr n ]
+
+  pub mem-join : {x : A} (n : ℕ) (f : ℕ → List A) → Mem x (joinBelow n f) → (i : ℕ) × (i < n) × Mem x (f i)
+  mem-join zero f m = elim m [ ]
+  mem-join (suc n) f m =
+      elim (mem-append (joinBelow n f) m) [
+        | inl before ↦ let i = mem-join n f before in (i .0, omega (arith, i .1), i .2)
+        | inr last ↦ (n, omega arith, last)
+      ]
+
   pub mem-map : {B : Type 0} {f : A → B} {y : B} (l : List A) → Mem y (map f l) → (x : A) × Mem x l × (y ≡ f x)
   mem-map [] m = elim m [ ]
   mem-map (z ∷ l) (here e) = (z, here refl, e)

@@ -1,4 +1,4 @@
--- The engine's definitions follow the packet book.
+-- The engine's definitions follow the packet book; and a step keeps any state, and delivers what is genuine.
 pub mod View
 pub mod Outputs
 pub mod Step
@@ -10,3 +10,6 @@ pub mod Calls
 pub mod Reset
 pub mod List
 pub mod Answers
+pub mod Carried
+pub mod Keeps
+pub mod Genuine

@@ -1,7 +1,8 @@
--- The words of a state whose numbers fit form a state. Rests on Read and specs/Forms.
+-- The words of a state whose numbers fit form a state, and words that form a state have one whose numbers fit. Rests on Read, View and
+-- Forms.
 use mathlib.Core.Bool.{Bool, true, _&&_}
 use mathlib.Core.List.{List}
-use mathlib.Core.Path.{_≡_, ap, _∙_}
+use mathlib.Core.Path.{_≡_, refl, ap, _∙_}
 use Prim.Native.Nat.{ℕ, _+_, _-_, _≤_, _<_}
 use native.Mathlib.Omega.{arith}
 use borrow.Author.Tests.{lt-ltb, le-leb, le-ltb, eq-eqb, ltb-true}
@@ -21,10 +22,13 @@ use Rattle.state.specs.declared.Register.the-variants.{Empty, Packet}
 use Rattle.state.specs.Layout.{headerSize, registerSize, flowPlace, routerPlace}
 use Rattle.state.specs.State.{State, tallyAt, cellAt}
 use Rattle.state.specs.Words.{registerWords, stateWords}
-use Rattle.state.specs.Read.{sxIn, syIn, countIn, tallyIn}
+use Rattle.state.specs.Read.{sxIn, syIn, countIn, clockIn, flowIn, tallyIn, registerIn, routerIn, planIn, stateOf}
 use Rattle.state.specs.Forms.{headerFits, numbersFit, tallyFits, flowFits, contentsFit, registerFits, cellFits, restFits, sizeIn, stateNumber}
+use Rattle.state.specs.Facts.{StateFacts}
 use Rattle.state.proofs.Words.{length-words}
 use Rattle.state.proofs.Read.{held, west-part, north-part, register-read, sx-read, sy-read, count-read, clock-read, flow-at-read, tally-at-read}
+use Rattle.state.proofs.View.{view-count, view-flow, view-tally, view-cell}
+use Rattle.state.proofs.Forms.{flow-fits, state-facts}
 
 -- a packet's numbers fit: 01's conditions on a register, of a state
 abbrev pub registerOk : State → Place → Register → Bool
@@ -138,3 +142,48 @@ module _ (s : State) (ok : StateOk s) (w : List ℕ) (h : Stands 0 w 0 (stateWor
         all-intro (flowFits w) (countIn w) (λ f l. flow-true f (rw (count-read s w h) at l)),
         all-intro (λ y. allBelow (sxIn w) (λ x. cellFits w x y)) (syIn w) cells,
       )
+
+-- and words that form a state have one whose numbers fit
+module _ (w : List ℕ) (h : stateNumber w ≡ 0) where
+  facts : StateFacts w
+  facts = state-facts w h
+
+  plan-fits : PlanOk ((stateOf w) .plan)
+  unfolding stateOf planIn
+  plan-fits =
+      let header = facts .header in
+      record {
+        sx-least = header .sx-ok .least;
+        sx-most = header .sx-ok .most;
+        sy-least = header .sy-ok .least;
+        sy-most = header .sy-ok .most;
+        flows-least = rw (view-count w) (header .count-least);
+        flows-most = rw (view-count w) (header .count-most);
+        flow-ok = λ f l. let m : f < countIn w = rw (view-count w) at l in rw (view-flow w f m) (facts .flow f m .numbers);
+      }
+
+  tally-fits : (f : ℕ) → f < countIn w → tallyFits (clockIn w) (flowIn w (flowPlace f)) (tallyIn w (flowPlace f)) ≡ true
+  unfolding flowFits
+  tally-fits f l = and-true (numbersFit (sxIn w) (syIn w) (flowIn w (flowPlace f))) _ (flow-fits w h f l) .1
+
+  register-fits : (place : Place) (at : ℕ) → registerFits w place at ≡ true → registerOk (stateOf w) place (registerIn w at) ≡ true
+  unfolding registerFits stateOf planIn
+  register-fits place at e = of (registerIn w at) e
+    where
+      of : (r : Register) → contentsFit w place at r ≡ true → registerOk (stateOf w) place r ≡ true
+      of Empty e = refl
+      of (Packet flow serial entry deflections) e =
+          let serials = leb 1 serial && leb serial ((tallyIn w (flowPlace flow)) .entered) in
+          let parts = and-true (ltb flow (countIn w) && serials) _ e in
+          let l : flow < countIn w = ltb-true flow (countIn w) (and-true (ltb flow (countIn w)) serials (parts .0) .0) in
+          rw (view-count w, view-tally w flow l, view-flow w flow l) e
+
+  pub state-fits : StateOk (stateOf w)
+  unfolding stateOf planIn
+  state-fits =
+      record {
+        plan-ok = plan-fits;
+        tally-ok = λ f l. let m : f < countIn w = rw (view-count w) at l in rw (view-tally w f m, view-flow w f m) (tally-fits f m);
+        west-ok = λ x y l m. rw (view-cell w x y l m) (register-fits (W x y) (routerIn w x y) (facts .west x y l m));
+        north-ok = λ x y l m. rw (view-cell w x y l m) (register-fits (N x y) (routerIn w x y + registerSize) (facts .north x y l m));
+      }

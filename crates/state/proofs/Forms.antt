@@ -2,7 +2,7 @@
 use mathlib.Core.Bool.{Bool, true, not, _&&_}
 use mathlib.Core.List.{List}
 use mathlib.Core.Path.{_≡_, sym, ap, _∙_}
-use Prim.Native.Nat.{ℕ, _+_, _-_, _<_}
+use Prim.Native.Nat.{ℕ, _+_, _-_, _≤_, _<_}
 use borrow.Author.Tests.{ltb-true, ltb-false, leb-true, eqb-true, not-false}
 use lib.Dec.{ltb, leb, eqb}
 use lib.ListN.{length, getD}
@@ -106,20 +106,30 @@ packet-facts w place at e flow serial entry deflections r =
     }
 
 -- what the tests of a call on a state leave
-pub state-facts : (w : List ℕ) → stateNumber w ≡ 0 → StateFacts w
-unfolding stateNumber restFits cellFits
-state-facts w e =
+passes : (w : List ℕ) → stateNumber w ≡ 0 → (headerFits w ≡ true) × (sizeIn w ≤ length w) × (restFits w ≡ true)
+unfolding stateNumber
+passes w e =
     let eight = passed (ltb (length w) headerSize) 7 _ e in
     let first = passed (not (headerFits w)) 8 _ (eight .1) in
     let size = passed (ltb (length w) (sizeIn w)) 7 _ (first .1) in
     let rest = passed (not (restFits w)) 8 0 (size .1) in
-    let both = and-true (allBelow (countIn w) (flowFits w)) _ (not-false (restFits w) (rest .0)) in
+    (not-false (headerFits w) (first .0), ltb-false _ _ (size .0), not-false (restFits w) (rest .0))
+
+pub flow-fits : (w : List ℕ) → stateNumber w ≡ 0 → (f : ℕ) → f < countIn w → flowFits w f ≡ true
+unfolding restFits
+flow-fits w e = all-at (flowFits w) (countIn w) (and-true (allBelow (countIn w) (flowFits w)) _ (passes w e .2) .0)
+
+pub state-facts : (w : List ℕ) → stateNumber w ≡ 0 → StateFacts w
+unfolding restFits cellFits
+state-facts w e =
+    let all = passes w e in
+    let cells = and-true (allBelow (countIn w) (flowFits w)) _ (all .2) .1 in
     record {
-      header = header-facts w (not-false (headerFits w) (first .0));
-      long = ltb-false _ _ (size .0);
-      flow = λ f h. flow-facts w f (all-at (flowFits w) (countIn w) (both .0) f h);
-      west = λ x y h k. cell (both .1) x y h k .0;
-      north = λ x y h k. cell (both .1) x y h k .1;
+      header = header-facts w (all .0);
+      long = all .1;
+      flow = λ f h. flow-facts w f (flow-fits w e f h);
+      west = λ x y h k. cell cells x y h k .0;
+      north = λ x y h k. cell cells x y h k .1;
     }
   where
     cell : allBelow (syIn w) (λ y. allBelow (sxIn w) (λ x. cellFits w x y)) ≡ true → (x y : ℕ) → x < sxIn w → y < syIn w

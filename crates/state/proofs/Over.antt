@@ -8,6 +8,8 @@ use lib.ListN.{length, drop}
 use lib.Seq.{sets, sets-eq}
 use Rattle.laws.proofs.Stands.{Stands, stands-start}
 use Rattle.plan.specs.declared.Answer.{Answer}
+use Rattle.plan.specs.declared.Answer.the-variants.{Done}
+use Rattle.plan.proofs.Refusals.{refused-done}
 use Rattle.state.specs.Outcome.{Outcome, refused, unless, over}
 
 -- a run of stores from the start
@@ -27,3 +29,10 @@ pub unless-refuses : {M : Type 0} (n : ℕ) (memory : M) (o : Outcome Answer M) 
 unfolding unless
 unless-refuses zero memory o e = absurd (e refl)
 unless-refuses (suc n) memory o e = refl
+
+-- an accepted call was not refused, and does what it does then
+pub unless-done : {M : Type 0} (n : ℕ) (memory : M) (o : Outcome Answer M) (v : ℕ) → (unless n memory o) .answer ≡ Done v
+    → (n ≡ 0) × (unless n memory o ≡ o)
+unfolding unless
+unless-done zero memory o v e = (refl, refl)
+unless-done (suc n) memory o v e = absurd (refused-done _ _ _ e)
