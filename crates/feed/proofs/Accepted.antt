@@ -2,7 +2,7 @@
 -- Groups.
 use mathlib.Core.Bool.{false}
 use mathlib.Core.List.{List}
-use mathlib.Core.Path.{_≡_, refl}
+use mathlib.Core.Path.{_≡_, refl, sym, ap, _∙_}
 use Prim.Native.Nat.{ℕ, zero, suc, _/_, _≤_, _<_}
 use native.Mathlib.Omega.{arith}
 use borrow.Author.Tests.{leb-true, ltb-false, not-false, le-ltb, le-leb}
@@ -13,14 +13,16 @@ use Rattle.laws.proofs.Cases.{passed, and-true}
 use Rattle.laws.proofs.Count.{none-below}
 use Rattle.flow.specs.Plan.{Plan}
 use Rattle.flow.specs.Limits.{exitSize}
+use Rattle.plan.specs.declared.Answer.{Answer}
 use Rattle.plan.specs.declared.Answer.the-variants.{Done}
 use Rattle.plan.specs.Refusals.{answerBy}
 use Rattle.router.specs.Delivery.{Delivery}
 use Rattle.state.specs.Read.{sxIn, syIn, countIn, planIn, stateOf}
 use Rattle.state.specs.Facts.{StateFacts}
 use Rattle.state.specs.Forms.{stateNumber}
-use Rattle.state.specs.Outcome.{outcome, unless}
+use Rattle.state.specs.Outcome.{Outcome, outcome, unless}
 use Rattle.state.proofs.Forms.{state-facts}
+use Rattle.state.proofs.Over.{unless-done}
 use Rattle.state.proofs.View.{view-count}
 use Rattle.cycle.proofs.Facts.{flow-ok}
 use Rattle.recent.specs.declared.Recent.{Recent}
@@ -120,7 +122,7 @@ module _ (words deliveries : List ℕ) (last : ℕ) (records : List Recent) wher
   unfolding feedOn
   feed-done v e =
       let state = unless-done _ _ _ v e in
-      let feeding = unless-done _ _ _ v (state .1) in
+      let feeding = unless-done _ _ _ v (ap (λ (o : Outcome Answer (List Recent)). o .answer) (sym (state .1)) ∙ e) in
       (state .0, accepted _ _ _ _ (feeding .0))
 
   -- and such a call answers 0 and feeds them all

@@ -7,7 +7,9 @@ use native.Mathlib.Decide.{ℕ-discrete}
 use native.Mathlib.Omega.{arith}
 use borrow.Author.Tests.{le-ltb, lt-leb, le-leb, eq-eqb, ne-eqb, ltb-false, leb-false, leb-true, eqb-true, not-false}
 use lib.Dec.{eqb, ltb, leb}
-use lib.ListN.{length}
+use lib.ListN.{length, getD}
+use lib.Seq.{getD-append-add}
+use Rattle.laws.proofs.Bounded.{is-tabulate}
 use Rattle.laws.proofs.Cases.{and-true, or-false}
 use Rattle.flow.specs.declared.Flow.{Flow}
 use Rattle.flow.specs.Offsets.{ΔY}
@@ -16,10 +18,11 @@ use Rattle.flow.specs.Ranges.{FlowOk}
 use Rattle.flow.specs.Limits.{exitSize}
 use Rattle.flight.specs.Flight.{travel, flight, flightOf}
 use Rattle.flight.proofs.Flight.{flight-bounded, mostFlight, flight-most}
-use Rattle.router.specs.Delivery.{Delivery}
+use Rattle.router.specs.Delivery.{Delivery, deliveryWith, wordsOf}
+use Rattle.router.proofs.Delivery.{words-length}
 use Rattle.state.specs.Read.{sxIn, syIn, countIn, planIn, stateOf}
 use Rattle.state.proofs.View.{view-count}
-use Rattle.feed.specs.Groups.{impossible, strange}
+use Rattle.feed.specs.Groups.{groupAt, groupsOf, impossible, strange}
 
 -- a flow's flight with few deflections is short
 pub flies-most : (sx sy : ℕ) (f : Flow) (D : ℕ) → (FlowOk sx sy f) × ((sx ≤ mostSize) × (sy ≤ mostSize)) → D ≤ ΔY sy f → flightOf sx sy f D ≤ mostFlight
@@ -83,3 +86,29 @@ module _ (w : List ℕ) (d : Delivery) where
       → impossible (sxIn w) (syIn w) (flowAt ((stateOf w) .plan) (d .flow)) (d .entry) (d .exit) (d .D) ≡ strange (planIn w) d
   unfolding strange planIn stateOf
   of-flow h = rw (view-count w, lt-leb (countIn w) (d .flow) h)
+
+-- the words behind a first delivery's
+next-group : (d : Delivery) (ds : List Delivery) (i : ℕ) → groupAt (wordsOf (d ∷ ds)) (suc i) ≡ groupAt (wordsOf ds) i
+next-group d ds i =
+    rw (behind (exitSize * suc i) (exitSize * i) (omega arith), word 1, word 2, word 3, word 4)
+  where
+    behind : (j k : ℕ) → j ≡ exitSize + k → getD (wordsOf (d ∷ ds)) j 0 ≡ getD (wordsOf ds) k 0
+    behind j k e = rw e (getD-append-add (wordsOf (d ∷ [])) (wordsOf ds) k 0)
+
+    word : (k : ℕ) → getD (wordsOf (d ∷ ds)) (exitSize * suc i + k) 0 ≡ getD (wordsOf ds) (exitSize * i + k) 0
+    word k = behind (exitSize * suc i + k) (exitSize * i + k) (omega arith)
+
+-- the groups of deliveries' words are these deliveries
+pub groups-words : (ds : List Delivery) → groupsOf (wordsOf ds) ≡ ds
+unfolding groupsOf
+groups-words ds =
+    sym (is-tabulate ds (length (wordsOf ds) / exitSize) (groupAt (wordsOf ds)) none (omega (arith, words-length ds))
+    (λ i h. group ds i (omega (arith, words-length ds))))
+  where
+    none : Delivery
+    none = deliveryWith 0 0 0 0 0
+
+    group : (ds : List Delivery) (i : ℕ) → i < length ds → getD ds i none ≡ groupAt (wordsOf ds) i
+    group [] i h = absurd (omega arith)
+    group (d ∷ ds) zero h = refl
+    group (d ∷ ds) (suc i) h = group ds i (omega arith) ∙ sym (next-group d ds i)

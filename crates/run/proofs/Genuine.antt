@@ -6,11 +6,8 @@ use Prim.Native.Nat.{ℕ, _+_, _*_, _≤_, _<_}
 use lib.ListN.{length, take}
 use lib.Seq.{take-at}
 use Rattle.laws.proofs.Count.{mem-join}
-use Rattle.flow.specs.Offsets.{ΔY}
-use Rattle.flow.specs.Plan.{Plan, flowAt}
 use Rattle.flow.specs.Limits.{exitSize}
 use Rattle.plan.specs.declared.Answer.the-variants.{Done}
-use Rattle.flight.specs.Flight.{travel}
 use Rattle.router.specs.Rule.{leave}
 use Rattle.router.specs.Delivery.{Delivery, wordsOf}
 use Rattle.router.proofs.Delivery.{words-length}
@@ -21,14 +18,9 @@ use Rattle.state.specs.Read.{stateOf}
 use Rattle.state.specs.Forms.{stateNumber}
 use Rattle.state.proofs.Formed.{StateOk, state-fits}
 use Rattle.cycle.specs.Step.{carried, leaving, delivered, deliveries, stepOn}
+use Rattle.feed.proofs.Groups.{Genuine}
 use Rattle.run.proofs.Carried.{Carries, carried-routed}
 use Rattle.run.proofs.Keeps.{step-done}
-
--- of a flow of the plan, with at most ΔY deflections, and as many cycles from entry to exit as that takes
-pub record Genuine (p : Plan) (d : Delivery) : Type 0 where
-  pub flow-below : d .flow < length (p .flows)
-  pub few : d .D ≤ ΔY (p .sy) (flowAt p (d .flow))
-  pub time : d .exit ≡ d .entry + travel (p .sx) (p .sy) (flowAt p (d .flow)) (d .D)
 
 module _ (s : State) (ok : StateOk s) (d : Delivery) where
   router-genuine : (x y : ℕ) → x < s .plan .sx → y < s .plan .sy → Mem d (delivered s x y) → Genuine (s .plan) d

@@ -13,3 +13,4 @@ pub mod Answers
 pub mod Carried
 pub mod Keeps
 pub mod Genuine
+pub mod Recent
