@@ -104,10 +104,10 @@ fn call_number(state: &[u32], deliveries: &[u32], count: usize, last: u32) -> u3
 }
 
 // How many groups are fed: none where the call is refused.
-fn groups_fed(number: u32, deliveries: &[u32]) -> usize
-    ensures { λ r. ⌜ r ≡ groupsFed number (now (deliveries .entry)) ⌝ }
+fn groups_fed(refusal: u32, deliveries: &[u32]) -> usize
+    ensures { λ r. ⌜ r ≡ groupsFed refusal (now (deliveries .entry)) ⌝ }
 {
-    if number != 0 {
+    if refusal != 0 {
         return 0;
     }
     deliveries.len() / cycle::EXIT_SIZE
