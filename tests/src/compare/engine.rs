@@ -10,6 +10,7 @@ pub fn all_came_up(tally: &Tally) {
     tally.must_have_come_up("reset", &[1, 2, 3, 4, 5, 6, 7, 8]);
     tally.must_have_come_up("offer", &[8, 9, 12, 13]);
     tally.must_have_come_up("step", &[8, 9, 10, 11]);
+    tally.must_have_come_up("recent", &[8, 9, 16, 17, 12]);
     tally.must_have_come_up("write", &[8, 9, 1, 15]);
 }
 

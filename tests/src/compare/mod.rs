@@ -7,6 +7,7 @@ pub mod listing;
 pub mod lists;
 pub mod parts;
 pub mod plans;
+pub mod recent;
 pub mod states;
 
 use crate::calls::Answer;
