@@ -31,14 +31,15 @@ pub fn offer(host: &impl Engine, tally: &mut Tally, state: &mut Twin<u32>, flow:
     tally.memory(call, state);
 }
 
-/// A step that is lent so many words of noise for its deliveries.
+/// A step that is lent so many words of noise for its deliveries. Gives these and the count of exits,
+/// if it is accepted.
 pub fn step(
     host: &impl Engine,
     tally: &mut Tally,
     random: &mut Random,
     state: &mut Twin<u32>,
     room: usize,
-) {
+) -> Option<(Twin<u32>, u64)> {
     let before = state.expected().to_vec();
     let mut delivery = Twin::noise_words(random, room);
     let expected = calls::step(state.expected(), delivery.expected());
@@ -47,6 +48,7 @@ pub fn step(
     tally.answer(call, expected, got);
     tally.memory(call, state);
     tally.memory(call, &delivery);
+    expected.ok().map(|exits| (delivery, exits))
 }
 
 /// Writing to a target of so many bytes of noise.

@@ -1,14 +1,14 @@
 //! Lists of calls after a reset: the book is fed each call's kind and arguments, and after each
 //! call its answer, its deliveries and the words of its state are compared, whole.
 
-use super::{Call, Tally, Twin, engine, recent};
+use super::recent::{self, Kept};
+use super::{Call, Tally, Twin, engine};
 use crate::book::{Book, Delivery};
 use crate::calls::Answer;
 use crate::host::Engine;
 use crate::plan::Plan;
 use crate::promises::{Windows, check, check_live, windows};
 use crate::random::{self, Random};
-use crate::recent::Record;
 use crate::slips::{met_exactly, refuted};
 use crate::state::words;
 use crate::worst::{Worst, worst_wait};
@@ -20,9 +20,7 @@ pub struct List<'a, E> {
     state: Twin<u32>,
     windows: Windows,
     delivered: Vec<Delivery>,
-    /// The flows' last deliveries, at most `last` each.
-    records: Twin<Record>,
-    last: u32,
+    kept: Kept,
     file: Vec<u8>,
 }
 
@@ -37,9 +35,8 @@ impl<'a, E: Engine> List<'a, E> {
         let watched = random.index(flows);
         let book = Book::new(plan);
         let windows = windows(&book, |f| flows <= 6 || f == watched);
-        let last = random.from(1, 16) as u32;
-        let records = recent::records(random, flows + past, last);
-        List { host, book, state, windows, delivered: Vec::new(), records, last, file }
+        let kept = Kept::new(random, flows);
+        List { host, book, state, windows, delivered: Vec::new(), kept, file }
     }
 
     pub fn offer(&mut self, tally: &mut Tally, flow: u32) {
@@ -63,23 +60,8 @@ impl<'a, E: Engine> List<'a, E> {
         let with = &("deliveries", self.book.clock, &self.file);
         tally.memory(Call { name: "step", with }, &delivery);
         if let Ok(exits) = expected {
-            self.recent(tally, random, delivery, 5 * exits as usize);
+            self.kept.feed(self.host, tally, random, &mut self.state, delivery, exits);
         }
-    }
-
-    /// What a step delivered, and a few words behind it, is fed on the state that the step left.
-    fn recent(
-        &mut self,
-        tally: &mut Tally,
-        random: &mut Random,
-        mut delivery: Twin<u32>,
-        words: usize,
-    ) {
-        let past = random.index(5).min(delivery.lent.len() - words);
-        delivery.lent.end = delivery.lent.start + words + past;
-        let List { host, state, records, last, .. } = self;
-        let accepted = recent::feed(*host, tally, state, &mut delivery, records, *last);
-        assert!(accepted, "seed {}: a step's own deliveries are refused", tally.seed);
     }
 
     fn compare(
@@ -108,7 +90,7 @@ impl<'a, E: Engine> List<'a, E> {
         let short = self.state.lent != whole;
         match random.from(0, 4) {
             0 if short => engine::offer(self.host, tally, &mut self.state, 0),
-            1 if short => engine::step(self.host, tally, random, &mut self.state, 1280),
+            1 if short => drop(engine::step(self.host, tally, random, &mut self.state, 1280)),
             3 => {
                 let flows = self.book.plan.flows.len();
                 recent::on_words(self.host, tally, random, &mut self.state, flows)

@@ -2,6 +2,7 @@
 //! lent to a call, with noise past what is used and around what is lent.
 
 pub mod bounds;
+mod deliveries;
 pub mod engine;
 pub mod listing;
 pub mod lists;

@@ -1,5 +1,6 @@
 //! Recent flights, one call at a time, on any memory: answer and records as U1 states them.
 
+use super::deliveries::{any_good, good, good_of, list, nearly, of_no_flow};
 use super::{Call, GUARD, Tally, Twin};
 use crate::book::Book;
 use crate::calls;
@@ -30,8 +31,39 @@ pub fn feed(
     expected.is_ok()
 }
 
+/// Records of a run, at most `last` deliveries each.
+pub struct Kept {
+    records: Twin<Record>,
+    last: u32,
+}
+
+impl Kept {
+    pub fn new(random: &mut Random, flows: usize) -> Kept {
+        let (last, past) = (random.from(1, 16) as u32, random.index(4));
+        Kept { records: records(random, flows + past, last), last }
+    }
+
+    /// What a step delivered, and a few of the words behind it, is fed on the state that the step
+    /// left. It is accepted.
+    pub fn feed(
+        &mut self,
+        host: &impl Engine,
+        tally: &mut Tally,
+        random: &mut Random,
+        state: &mut Twin<u32>,
+        mut delivery: Twin<u32>,
+        exits: u64,
+    ) {
+        let words = 5 * exits as usize;
+        let past = random.index(5).min(delivery.lent.len() - words);
+        delivery.lent.end = delivery.lent.start + words + past;
+        let accepted = feed(host, tally, state, &mut delivery, &mut self.records, self.last);
+        assert!(accepted, "seed {}: a step's own deliveries are refused", tally.seed);
+    }
+}
+
 /// So many lent records, with more around them.
-pub fn records(random: &mut Random, count: usize, last: u32) -> Twin<Record> {
+fn records(random: &mut Random, count: usize, last: u32) -> Twin<Record> {
     Twin::new((0..count + 2 * GUARD).map(|_| record(random, last)).collect())
 }
 
@@ -56,55 +88,6 @@ fn any_last(random: &mut Random) -> u32 {
         2..6 => random.pick(&[1, 2, 15, 16]),
         _ => random.from(1, 16) as u32,
     }
-}
-
-/// A delivery of a flow, whether or not it can be one. What is past 32 bits is lost, and no serial is
-/// asked for.
-fn delivery(f: usize, entry: i64, exit: i64, d: i64) -> [u32; 5] {
-    [f as u32, 0, entry as u32, exit as u32, d as u32]
-}
-
-/// Cycles from entry to exit.
-fn span(plan: &Plan, f: usize, d: i64) -> i64 {
-    plan.dx(f) + plan.dy(f) + d * plan.sx
-}
-
-/// Deliveries of a flow: without a deflection and with the most, entered first or left last.
-fn good(plan: &Plan, f: usize) -> Vec<[u32; 5]> {
-    let last = u32::MAX as i64;
-    let ends = [0, plan.dy(f)].map(|d| {
-        let span = span(plan, f, d);
-        [delivery(f, 0, span, d), delivery(f, last - span, last, d)]
-    });
-    ends.concat()
-}
-
-/// What nearly is a delivery of a flow. A few of them are.
-fn nearly(plan: &Plan, f: usize) -> Vec<[u32; 5]> {
-    let (dx, dy, sx, sy) = (plan.dx(f), plan.dy(f), plan.sx, plan.sy);
-    let (entry, last, flows) = (100, u32::MAX as i64, plan.flows.len());
-    let from = |entry, d, span| delivery(f, entry, entry + span, d);
-    let wrapped = (1 << 32) / sx + 1;
-    vec![
-        delivery(flows, entry, entry + span(plan, f, 0), 0),
-        delivery(flows + 1, entry, entry + span(plan, f, 0), 0),
-        delivery(u32::MAX as usize, entry, entry + span(plan, f, 0), 0),
-        from(entry, dy + 1, span(plan, f, dy + 1)),
-        from(entry, wrapped, span(plan, f, wrapped)),
-        from(entry, dy, span(plan, f, dy) + 1),
-        from(entry, dy, span(plan, f, dy) - 1),
-        from(entry, 0, span(plan, f, 0) + 2),
-        from(entry, 0, span(plan, f, 0) - 2),
-        from(entry, 0, span(plan, f, 1)),
-        from(entry, dy, dx + dy + dy * sy),
-        from(entry, dy, dx + dy + dy * sx - sx),
-        from(last, 0, span(plan, f, 0)),
-        from(last - span(plan, f, dy) + 1, dy, span(plan, f, dy)),
-        from(entry, 0, -1),
-        from(entry, 0, -2),
-        from(entry, 0, -span(plan, f, 0)),
-        delivery(f, entry, 0, 0),
-    ]
 }
 
 /// Refusals in every order, what nearly is a delivery in every place of a list, and full records.
@@ -139,7 +122,7 @@ fn orders(host: &impl Engine, tally: &mut Tally, random: &mut Random, plan: &Pla
     let short = |length: usize| state[..length].to_vec();
     let states =
         [state.clone(), short(7), changed(0), short(state.len() - 1), changed(14), changed(8)];
-    let (right, wrong) = (good(plan, 1)[1], nearly(plan, 4)[0]);
+    let (right, wrong) = (good(plan, 1)[1], of_no_flow(plan, 4));
     let lists = [
         vec![],
         right.to_vec(),
@@ -222,7 +205,7 @@ fn all_and_one_by_one(
     mut records: Twin<Record>,
     last: u32,
 ) {
-    let mut single = Twin { lent: records.lent.clone(), ..Twin::new(records.got.clone()) };
+    let mut single = Twin::new(records.got.clone());
     let state = &mut Twin::words(random, state, 0);
     let whole = &mut Twin::words(random, list, 0);
     if !feed(host, tally, state, whole, &mut records, last) {
@@ -235,42 +218,6 @@ fn all_and_one_by_one(
     assert_eq!(records.got, single.got, "seed {}: all at once, one by one", tally.seed);
 }
 
-fn any_good(random: &mut Random, plan: &Plan) -> [u32; 5] {
-    let f = random.index(plan.flows.len());
-    good_of(random, plan, f)
-}
-
-/// A delivery of a flow with any D that it may have, and any serial.
-fn good_of(random: &mut Random, plan: &Plan, f: usize) -> [u32; 5] {
-    let d = random.from(0, plan.dy(f));
-    let span = span(plan, f, d);
-    let latest = u32::MAX as i64 - span;
-    let entry = match random.from(0, 9) {
-        0 => 0,
-        1 => latest,
-        2..6 => random.from(0, latest),
-        _ => random.from(0, 1000),
-    };
-    let mut group = delivery(f, entry, entry + span, d);
-    group[1] = random.word();
-    group
-}
-
-/// Deliveries of a plan, few or many, seldom one that isn't, and some words behind.
-fn list(random: &mut Random, plan: &Plan) -> Vec<u32> {
-    let most = random.pick(&[0, 1, 3, 40, 300]);
-    let mut list: Vec<_> = (0..random.from(0, most)).map(|_| any_good(random, plan)).collect();
-    if random.percent(20) && !list.is_empty() {
-        let choices = nearly(plan, random.index(plan.flows.len()));
-        let at = random.index(list.len());
-        list[at] = random.pick(&choices);
-    }
-    let mut list = list.concat();
-    let behind = random.index(5);
-    list.extend(random.words(behind));
-    list
-}
-
 /// Some calls on one state of a plan, the records of one being those of the next.
 pub fn round(host: &impl Engine, tally: &mut Tally, random: &mut Random, sx: i64, sy: i64) {
     let flows = random::flow_count(random);
@@ -281,17 +228,13 @@ pub fn round(host: &impl Engine, tally: &mut Tally, random: &mut Random, sx: i64
     let mut lent = records(random, count, last);
     let words = &mut Twin::words(random, &state, 2);
     for _ in 0..3 {
-        let list = &mut list_of(random, &plan);
+        let list = list(random, &plan);
+        let list = &mut Twin::words(random, &list, 0);
         let last = if random.percent(60) { last } else { any_last(random) };
         feed(host, tally, words, list, &mut lent, last);
     }
     let (list, last) = (list(random, &plan), random.from(1, 16) as u32);
     all_and_one_by_one(host, tally, random, (&state, &list), lent, last);
-}
-
-fn list_of(random: &mut Random, plan: &Plan) -> Twin<u32> {
-    let list = list(random, plan);
-    Twin::words(random, &list, 0)
 }
 
 /// A call on words that may form no state: noise for deliveries, or what would be none, and about as

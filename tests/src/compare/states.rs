@@ -1,6 +1,7 @@
 //! States that no run reaches, damaged words, and lent lengths from 0.
 
-use super::{Tally, Twin, engine, plans, recent};
+use super::recent::{self, Kept};
+use super::{Tally, Twin, engine, plans};
 use crate::book::{Book, Side};
 use crate::host::Engine;
 use crate::plan::{Flow, MOST_BYTES, Plan};
@@ -111,15 +112,20 @@ fn lent_lengths(host: &impl Engine, tally: &mut Tally, random: &mut Random, stat
     }
 }
 
-/// Made-up states of a plan on this torus: calls on them, steps in a row, and damaged copies.
+/// Made-up states of a plan on this torus: calls on them, steps in a row with their flights kept, and
+/// damaged copies.
 pub fn round(host: &impl Engine, tally: &mut Tally, random: &mut Random, sx: i64, sy: i64) {
     let flows = random::flow_count(random);
     let plan = random::plan(random, sx, sy, flows);
     let state = random::state(random, &plan);
     four_calls(host, tally, random, &state);
     let mut run = Twin::words(random, &state, 2);
+    let mut kept = Kept::new(random, flows);
     for _ in 0..random.from(1, 12) {
-        engine::step(host, tally, random, &mut run, 5 * plan.routers());
+        let step = engine::step(host, tally, random, &mut run, 5 * plan.routers());
+        if let Some((delivery, exits)) = step {
+            kept.feed(host, tally, random, &mut run, delivery, exits);
+        }
     }
     for _ in 0..8 {
         let mut damaged = state.clone();
