@@ -1,7 +1,7 @@
 //! Each call as 01 states it, on lent memory: what it answers and what the memory is afterwards.
 
 use crate::book::Book;
-use crate::plan::{MOST_BYTES, Plan, RECORD, Refusal, TRAILER, read, refuse};
+use crate::plan::{MOST_BYTES, RECORD, Refusal, TRAILER, read, refuse};
 use crate::recent::{self, Record};
 use crate::state::{judge, words};
 
@@ -48,11 +48,7 @@ pub fn step(memory: &mut [u32], delivery: &mut [u32]) -> Answer {
 
 /// Recent flights: 8 and 9, then 16, 17, 12.
 pub fn recent(memory: &[u32], deliveries: &[u32], records: &mut [Record], last: u32) -> Answer {
-    recent_of(&judge(memory)?.plan, deliveries, records, last)
-}
-
-/// Recent flights of a state that has this plan: 16, 17, 12.
-pub fn recent_of(plan: &Plan, deliveries: &[u32], records: &mut [Record], last: u32) -> Answer {
+    let plan = judge(memory)?.plan;
     if records.len() < plan.flows.len() {
         return refuse(16, 0);
     }
@@ -60,7 +56,7 @@ pub fn recent_of(plan: &Plan, deliveries: &[u32], records: &mut [Record], last: 
         return refuse(17, 0);
     }
     let groups = recent::groups(deliveries);
-    if !groups.iter().all(|&group| recent::is_of_plan(plan, group)) {
+    if !groups.iter().all(|&group| recent::is_of_plan(&plan, group)) {
         return refuse(12, 0);
     }
     for group in groups {

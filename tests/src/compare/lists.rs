@@ -91,14 +91,14 @@ impl<'a, E: Engine> List<'a, E> {
         match random.from(0, 4) {
             0 if short => engine::offer(self.host, tally, &mut self.state, 0),
             1 if short => drop(engine::step(self.host, tally, random, &mut self.state, 1280)),
-            3 => {
-                let flows = self.book.plan.flows.len();
-                recent::on_words(self.host, tally, random, &mut self.state, flows)
-            }
             2 if short => engine::reset(self.host, tally, &self.file, &mut self.state),
             2 => {
                 let cut = &self.file[..random.index(self.file.len())];
                 engine::reset(self.host, tally, cut, &mut self.state)
+            }
+            3 => {
+                let flows = self.book.plan.flows.len();
+                recent::on_words(self.host, tally, random, &mut self.state, flows)
             }
             _ => {
                 let notes = random.bytes(9);
