@@ -1,5 +1,6 @@
 /* A host to start from: reads a plan file, prints each flow's bounds, offers one packet of each
- * flow and steps until all of them have left. Last it writes the plan back from the state.
+ * flow and steps until all of them have left, keeping each flow's last flights. Last it prints
+ * these, and writes the plan back from the state.
  *
  *     host PLAN
  *
@@ -17,6 +18,11 @@ static uint8_t plan[HRT_MOST_PLAN_BYTES + 1];
 static uint32_t state[HRT_MOST_STATE_WORDS];
 static uint32_t delivery[HRT_MOST_DELIVERY_WORDS];
 static uint8_t written[HRT_MOST_PLAN_BYTES];
+
+/* How many flights of a flow are kept, 1 to HRT_MOST_RECENT, and a record of them for each flow.
+ * Zeros hold none. */
+#define LAST_FLIGHTS 4
+static struct hrt_recent recent[HRT_MOST_FLOWS];
 
 /* Says that a call was refused, if it was. */
 static int is_refused(const char *call, uint64_t answer)
@@ -64,9 +70,18 @@ static int print_bounds(size_t bytes, uint32_t flows, uint64_t *flights)
     return 0;
 }
 
-/* Steps until so many packets have left, and prints each. Every one of them has a token, so in
- * each cycle one is under way or enters, and none is under way for longer than its flight bound:
- * after as many steps as the flight bounds add up to, all have left. */
+/* Keeps the flights of so many packets that a step delivered. */
+static int keep(uint64_t exits)
+{
+    size_t words = 5 * (size_t)exits;
+    return is_refused("keeping the flights",
+                      hrt_recent(state, HRT_MOST_STATE_WORDS, delivery, words, recent, HRT_MOST_FLOWS,
+                                 LAST_FLIGHTS));
+}
+
+/* Steps until so many packets have left, prints each and keeps its flight. Every one of them has a
+ * token, so in each cycle one is under way or enters, and none is under way for longer than its
+ * flight bound: after as many steps as the flight bounds add up to, all have left. */
 static int run(uint32_t packets, uint64_t most_steps)
 {
     for (uint64_t step = 0; packets > 0; step++) {
@@ -84,9 +99,24 @@ static int run(uint32_t packets, uint64_t most_steps)
                    (unsigned)d[1], (unsigned)d[2], (unsigned)d[3], (unsigned)d[4],
                    (unsigned)(d[3] - d[2] + 2));
         }
+        if (keep(exits))
+            return 1;
         packets -= (uint32_t)exits;
     }
     return 0;
+}
+
+/* Prints the last flights of each flow, oldest first. */
+static void print_recent(uint32_t flows)
+{
+    for (uint32_t flow = 0; flow < flows; flow++) {
+        const struct hrt_recent *r = &recent[flow];
+        printf("flow %u, last flights:", (unsigned)flow);
+        for (uint32_t i = 0; i < r->held; i++)
+            printf(" %u with %u deflections%s", (unsigned)r->flights[i], (unsigned)r->deflections[i],
+                   i + 1 < r->held ? "," : ";");
+        printf(" longest %u, most deflections %u\n", (unsigned)r->longest, (unsigned)r->most);
+    }
 }
 
 /* Writes the plan back, with its notes, and says whether it is the file that was read. */
@@ -122,5 +152,8 @@ int main(int argc, char **argv)
     for (uint32_t flow = 0; flow < flows; flow++)
         if (is_refused("an offer", hrt_offer(state, HRT_MOST_STATE_WORDS, flow)))
             return 1;
-    return run(flows, flights) || write_back(bytes, (size_t)notes);
+    if (run(flows, flights))
+        return 1;
+    print_recent(flows);
+    return write_back(bytes, (size_t)notes);
 }

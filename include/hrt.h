@@ -1,8 +1,9 @@
 /* The C interface of Kimboryu. Link with target/staticlib/libhost.a (rt staticlib host).
  *
  * Memory is lent as a pointer and a count of its elements. The pointer is not null, even for a count of 0.
- * Memories lent to one call don't overlap: hrt_reset's plan and state, hrt_step's state and delivery, hrt_write's target and
- * its state or notes lie apart. Only what is merely read may overlap, as hrt_write's state and notes.
+ * Memories lent to one call don't overlap: hrt_reset's plan and state, hrt_step's state and delivery, hrt_recent's records and
+ * its state or deliveries, hrt_write's target and its state or notes lie apart. Only what is merely read may overlap, as
+ * hrt_write's state and notes.
  * The functions have no memory of their own. Calls may run at once, in several threads, if what one of them writes is lent to
  * no other: all may read one plan, and a state is in one hrt_reset, hrt_offer or hrt_step at a time.
  *
@@ -25,6 +26,7 @@ extern "C" {
 #define HRT_MOST_FLOWS 256
 #define HRT_MOST_WAITING 65535      /* packets of a flow that wait; one offer more is refused with 13 */
 #define HRT_LAST_CLOCK 4294967295u  /* a step in this cycle is refused with 11 */
+#define HRT_MOST_RECENT 16          /* deliveries that a record may hold; the least is 1 */
 
 /* The words of a state, and the fewest that may be lent for the deliveries of a step. */
 #define HRT_STATE_WORDS(flows, sx, sy) ((size_t)8 + 10 * (size_t)(flows) + 8 * (size_t)(sx) * (size_t)(sy))
@@ -59,6 +61,25 @@ uint64_t hrt_offer(uint32_t *state, size_t state_words, uint32_t flow);
 /* One cycle. Answers the number of exits, for each of which it delivers five words: flow, serial, entry cycle, exit cycle,
  * deflections. The delivery memory has at least HRT_DELIVERY_WORDS(Sx, Sy) words. */
 uint64_t hrt_step(uint32_t *state, size_t state_words, uint32_t *delivery, size_t delivery_words);
+
+/* The last deliveries of a flow: how many are held, the longest flight and the most deflections among them, then the flight and
+ * the deflections of each, oldest first, zeros behind. All zeros holds none. In C++ it is always struct hrt_recent, since the
+ * call has that name too. */
+struct hrt_recent {
+    uint32_t held;
+    uint32_t longest;
+    uint32_t most;
+    uint32_t flights[HRT_MOST_RECENT];
+    uint32_t deflections[HRT_MOST_RECENT];
+};
+
+/* Feeds deliveries, five words each as hrt_step delivers them, to the records of their flows: record n is flow n's, and it then
+ * holds the flow's last deliveries, at most `last` of them, 1 to HRT_MOST_RECENT. A record that says it holds more than `last`
+ * is taken as empty. Words behind the last whole delivery aren't read, and records without a delivery stay. Fewer records than
+ * flows are refused with 16, another `last` with 17, and a delivery with 12 if the plan has no such flow, or that flow can't have
+ * such a flight and deflections. Answers 0. */
+uint64_t hrt_recent(const uint32_t *state, size_t state_words, const uint32_t *deliveries, size_t delivery_words,
+                    struct hrt_recent *records, size_t record_count, uint32_t last);
 
 /* Writes the plan file of a state, behind the given notes. Answers the file's length in bytes. */
 uint64_t hrt_write(const uint32_t *state, size_t state_words, const uint8_t *notes, size_t notes_bytes,

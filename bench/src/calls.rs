@@ -4,6 +4,7 @@ use crate::loads::{Case, Load, SIZES, case};
 use crate::plain::Plain;
 use crate::times::{alternate, print_row};
 use second::host::{Bounds, Engine};
+use second::recent::Record;
 use std::hint::black_box;
 
 const BATCH: usize = 50;
@@ -45,7 +46,7 @@ fn all_bounds(host: &impl Bounds, case: &Case) {
     }
 }
 
-/// Step, offer, reset and write.
+/// Step, offer, recent flights, reset and write.
 pub fn engine(archive: &impl Engine) {
     for case in cases(&[Load::Light, Load::Saturated]) {
         let state = case.state();
@@ -59,6 +60,17 @@ pub fn engine(archive: &impl Engine) {
             &case,
             alternate(BATCH, offers(&Plain, &case, &state), offers(archive, &case, &state)),
         );
+        for (name, last) in [("recent16", 16), ("recent 4", 4)] {
+            print_row(
+                name,
+                &case,
+                alternate(
+                    BATCH,
+                    feeds(&Plain, &case, &state, last),
+                    feeds(archive, &case, &state, last),
+                ),
+            );
+        }
         print_row("reset", &case, alternate(BATCH, resets(&Plain, &case), resets(archive, &case)));
         print_row(
             "write",
@@ -89,6 +101,30 @@ fn offers(host: &impl Engine, case: &Case, state: &[u32]) -> impl FnMut() {
             black_box(host.offer(&mut memory, (call % flows) as u32));
         }
     }
+}
+
+/// The deliveries of steps in a row, each step's fed on the state that the last one leaves. The
+/// records are full for the most part.
+fn feeds(host: &impl Engine, case: &Case, state: &[u32], last: u32) -> impl FnMut() {
+    let (state, deliveries) = delivered(case, state);
+    let mut records = vec![Record::default(); case.flows];
+    move || {
+        for deliveries in &deliveries {
+            black_box(host.recent(&state, deliveries, &mut records, last));
+        }
+    }
+}
+
+/// The state after a batch of steps, and what each of them delivered.
+fn delivered(case: &Case, state: &[u32]) -> (Vec<u32>, Vec<Vec<u32>>) {
+    let mut memory = state.to_vec();
+    let mut delivery = vec![0; 5 * case.routers()];
+    let mut step = || {
+        let exits = Plain.step(&mut memory, &mut delivery);
+        delivery[..5 * exits as usize].to_vec()
+    };
+    let deliveries = (0..BATCH).map(|_| step()).collect();
+    (memory, deliveries)
 }
 
 fn resets(host: &impl Engine, case: &Case) -> impl FnMut() {

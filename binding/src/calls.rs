@@ -3,7 +3,11 @@
 //! A slice is never null and knows its length, and a lent `&mut` overlaps nothing else, so what the
 //! header asks of its caller always holds here.
 
+use crate::Recent;
+
 mod raw {
+    use super::Recent;
+
     extern "C" {
         pub fn hrt_window(plan: *const u8, plan_bytes: usize, flow: u32) -> u32;
         pub fn hrt_flight(plan: *const u8, plan_bytes: usize, flow: u32) -> u64;
@@ -20,6 +24,15 @@ mod raw {
             state_words: usize,
             delivery: *mut u32,
             delivery_words: usize,
+        ) -> u64;
+        pub fn hrt_recent(
+            state: *const u32,
+            state_words: usize,
+            deliveries: *const u32,
+            delivery_words: usize,
+            records: *mut Recent,
+            record_count: usize,
+            last: u32,
         ) -> u64;
         pub fn hrt_write(
             state: *const u32,
@@ -67,6 +80,16 @@ pub fn offer(state: &mut [u32], flow: u32) -> u64 {
 pub fn step(state: &mut [u32], delivery: &mut [u32]) -> u64 {
     let (words, room) = (state.len(), delivery.len());
     unsafe { raw::hrt_step(state.as_mut_ptr(), words, delivery.as_mut_ptr(), room) }
+}
+
+/// Feeds deliveries, five words each, to the records of their flows, which then hold the last ones,
+/// at most `last` each. Answers 0.
+#[inline]
+pub fn recent(state: &[u32], deliveries: &[u32], records: &mut [Recent], last: u32) -> u64 {
+    let (words, count) = (state.len(), records.len());
+    let (state, records) = (state.as_ptr(), records.as_mut_ptr());
+    let (deliveries, delivered) = (deliveries.as_ptr(), deliveries.len());
+    unsafe { raw::hrt_recent(state, words, deliveries, delivered, records, count, last) }
 }
 
 /// Writes the plan file of a state, behind the notes. Answers the file's length in bytes.

@@ -2,8 +2,9 @@
 //! in Rattle and linked from `target/staticlib/libhost.a`.
 //!
 //! A host reads a [`Plan`], asks the bounds of its flows, resets it into a [`State`], and then
-//! offers packets and steps. Every answer is the archive's: [`Answer::Done`] with a value, or
-//! [`Answer::Refused`] with a number of README's table and a place. A refused call changes nothing.
+//! offers packets and steps; a [`Recent`] for each flow holds its last deliveries. Every answer is
+//! the archive's: [`Answer::Done`] with a value, or [`Answer::Refused`] with a number of README's
+//! table and a place. A refused call changes nothing.
 //!
 //! ```
 //! # fn main() -> Result<(), hrt::Refusal> {
@@ -17,6 +18,7 @@
 //! assert_eq!(plan.flight(0), hrt::Answer::Done(3));
 //!
 //! let mut state = plan.reset()?;
+//! let mut recent = vec![hrt::Recent::default(); state.flows()];
 //! state.offer(0).done()?;
 //! let mut left = 0;
 //! while left == 0 {
@@ -24,7 +26,9 @@
 //!         assert_eq!((packet.flow, packet.serial, packet.flight()), (0, 1, 3));
 //!         left += 1;
 //!     }
+//!     state.recent(&mut recent, 4).done()?;
 //! }
+//! assert_eq!((recent[0].held, recent[0].longest, recent[0].most), (1, 3, 0));
 //! # Ok(()) }
 //! ```
 //!
@@ -36,8 +40,10 @@ mod answer;
 pub mod calls;
 pub mod limits;
 mod plan;
+mod recent;
 mod state;
 
 pub use answer::{Answer, Refusal};
 pub use plan::Plan;
+pub use recent::Recent;
 pub use state::{Delivery, Flow, Packet, State};

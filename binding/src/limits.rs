@@ -20,6 +20,10 @@ pub const MOST_WINDOW: u32 = 65_535;
 pub const MOST_WAITING: u32 = 65_535;
 /// The last value of the clock, at which a step is refused.
 pub const LAST_CLOCK: u32 = u32::MAX;
+/// The fewest deliveries that a flow's record may be asked to keep.
+pub const LEAST_RECENT: u32 = 1;
+/// The most deliveries that a flow's record may be asked to keep.
+pub const MOST_RECENT: u32 = 16;
 
 /// The words of a state's head: Sx, Sy, F, the clock and four zeros.
 pub const HEAD_WORDS: usize = 8;

@@ -4,7 +4,7 @@ use crate::limits::{
     delivery_words, state_words, EXIT_WORDS, FLOW_WORDS, HEAD_WORDS, MOST_FLOWS, MOST_PLAN_BYTES,
     MOST_SIDE, MOST_STATE_WORDS, RECORD_BYTES, REGISTER_WORDS, TRAILER_BYTES,
 };
-use crate::{calls, Answer, Refusal};
+use crate::{calls, Answer, Recent, Refusal};
 
 /// A flow's six plan numbers: source and destination by column and row, period P and burst σ.
 #[derive(Clone, Copy, Debug, PartialEq, Eq)]
@@ -57,6 +57,8 @@ pub struct Packet {
 pub struct State {
     words: Vec<u32>,
     delivery: Vec<u32>,
+    /// How many words the last step delivered; none if it was refused.
+    delivered: usize,
 }
 
 impl State {
@@ -91,7 +93,7 @@ impl State {
     fn cut(mut words: Vec<u32>) -> State {
         let (sx, sy) = (words[0], words[1]);
         words.truncate(state_words(sx, sy, words[2] as usize));
-        State { words, delivery: vec![0; delivery_words(sx, sy)] }
+        State { words, delivery: vec![0; delivery_words(sx, sy)], delivered: 0 }
     }
 
     /// The words, as the scope document's "State memory" lays them out.
@@ -108,8 +110,10 @@ impl State {
     /// One cycle: the packets that leave, routers by row, then column. Refusal 11.
     #[inline]
     pub fn step(&mut self) -> Result<impl ExactSizeIterator<Item = Delivery> + '_, Refusal> {
+        self.delivered = 0;
         let exits = Answer::of(calls::step(&mut self.words, &mut self.delivery)).done()?;
-        let words = &self.delivery[..EXIT_WORDS * exits as usize];
+        self.delivered = EXIT_WORDS * exits as usize;
+        let words = &self.delivery[..self.delivered];
         Ok(words.chunks_exact(EXIT_WORDS).map(|exit| Delivery {
             flow: exit[0],
             serial: exit[1],
@@ -117,6 +121,14 @@ impl State {
             exit: exit[3],
             deflections: exit[4],
         }))
+    }
+
+    /// Feeds what the last step delivered to records, one for each flow, which then hold the flow's
+    /// last deliveries, at most `last` of them. Refusals 16 and 17.
+    #[inline]
+    pub fn recent(&self, records: &mut [Recent], last: u32) -> Answer {
+        let deliveries = &self.delivery[..self.delivered];
+        Answer::of(calls::recent(&self.words, deliveries, records, last))
     }
 
     /// The plan file of the state, with these notes in front. Refusal 1.
@@ -189,6 +201,7 @@ impl State {
 #[cfg(test)]
 mod tests {
     use super::*;
+    use crate::limits::LAST_CLOCK;
 
     const FLOW: Flow = Flow { xs: 0, ys: 0, xd: 3, yd: 3, period: 10, burst: 2 };
 
@@ -225,5 +238,39 @@ mod tests {
         let mut kept = state.words().to_vec();
         kept.resize(4616, 7);
         assert_eq!(State::of_words(kept), Ok(state));
+    }
+
+    #[test]
+    fn records_hold_the_last_deliveries() {
+        let mut state = State::fresh(4, 4, &[Flow { period: 1, ..FLOW }, FLOW]).unwrap();
+        let mut records = [Recent::default(); 3];
+        records[2].held = 99;
+        let behind = records[2];
+        for _ in 0..12 {
+            state.offer(0).done().unwrap();
+            assert!(state.step().is_ok());
+            assert_eq!(state.recent(&mut records, 3), Answer::Done(0));
+        }
+        assert_eq!((records[0].held, records[0].longest, records[0].most), (3, 8, 0));
+        assert_eq!(records[0].flights[..4], [8, 8, 8, 0]);
+        assert_eq!(records[1..], [Recent::default(), behind]);
+        let number = |records: &mut [Recent], last| state.recent(records, last).done().unwrap_err();
+        assert_eq!(number(&mut records[..1], 0), Refusal { number: 16, place: 0 });
+        assert_eq!(number(&mut records, 0), Refusal { number: 17, place: 0 });
+        assert_eq!(number(&mut records, 17), Refusal { number: 17, place: 0 });
+    }
+
+    #[test]
+    fn a_refused_step_delivers_nothing() {
+        let flow = Flow { xd: 0, yd: 0, ..FLOW };
+        let mut words = State::fresh(1, 1, &[flow]).unwrap().words().to_vec();
+        words[3] = LAST_CLOCK - 1;
+        let mut state = State::of_words(words).unwrap();
+        state.offer(0).done().unwrap();
+        assert_eq!(state.step().unwrap().len(), 1);
+        assert!(state.step().is_err());
+        let mut records = [Recent::default()];
+        assert_eq!(state.recent(&mut records, 16), Answer::Done(0));
+        assert_eq!(records[0].held, 0);
     }
 }

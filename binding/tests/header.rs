@@ -1,9 +1,11 @@
-//! What src/calls.rs declares and src/limits.rs names is what include/hrt.h says.
+//! What src/calls.rs and src/recent.rs declare and src/limits.rs names is what include/hrt.h says.
 
 use hrt::limits::*;
+use hrt::Recent;
 
 const HEADER: &str = include_str!("../../include/hrt.h");
 const CALLS: &str = include_str!("../src/calls.rs");
+const RECENT: &str = include_str!("../src/recent.rs");
 
 /// The header's macros that decode an answer; all others are limits.
 const DECODINGS: [&str; 5] = [
@@ -25,6 +27,7 @@ fn limits() -> Vec<(&'static str, String)> {
         ("HRT_MOST_FLOWS", MOST_FLOWS.to_string()),
         ("HRT_MOST_WAITING", MOST_WAITING.to_string()),
         ("HRT_LAST_CLOCK", format!("{LAST_CLOCK}u")),
+        ("HRT_MOST_RECENT", MOST_RECENT.to_string()),
         (
             "HRT_STATE_WORDS(flows, sx, sy)",
             format!("((size_t){HEAD_WORDS} + {FLOW_WORDS} * (size_t)(flows) + {router} * {grid})"),
@@ -66,6 +69,16 @@ fn limits_are_the_headers() {
     assert_eq!(found.len(), limits.len(), "limits of include/hrt.h and binding/src/limits.rs");
 }
 
+#[test]
+fn the_record_is_the_headers() {
+    assert_eq!(
+        fields_of_header(),
+        fields_of_binding(),
+        "include/hrt.h is on the left, binding/src/recent.rs on the right"
+    );
+    assert_eq!((size_of::<Recent>(), align_of::<Recent>()), (35 * size_of::<u32>(), 4));
+}
+
 /// The header without its comments.
 fn header() -> String {
     let mut code = String::new();
@@ -86,11 +99,45 @@ fn macros() -> Vec<(String, String)> {
     header().lines().filter_map(text).collect()
 }
 
+/// What stands between the ends of the header's struct, and what stands around it.
+fn record_apart(header: &str) -> (&str, String) {
+    let (front, rest) = header.split_once("struct hrt_recent {").expect("there is the record");
+    let (fields, back) = rest.split_once("};").expect("the record ends");
+    (fields, format!("{front}{back}"))
+}
+
+/// The record's fields in Rust's words, in order.
+fn fields_of_header() -> Vec<String> {
+    let header = header();
+    let (fields, _) = record_apart(&header);
+    fields.split(';').map(str::trim).filter(|text| !text.is_empty()).map(field_in_rust).collect()
+}
+
+fn field_in_rust(declaration: &str) -> String {
+    let Some((front, count)) = declaration.split_once('[') else {
+        let (kind, name) = named(declaration);
+        return format!("{name}: {kind}");
+    };
+    let (kind, name) = named(front);
+    let count = count.strip_prefix("HRT_").and_then(|text| text.strip_suffix(']'));
+    format!("{name}: [{kind}; {} as usize]", count.expect(declaration))
+}
+
+/// The binding's fields of the record, in order, which is that of C.
+fn fields_of_binding() -> Vec<String> {
+    let (front, code) = RECENT.split_once("pub struct Recent {").expect("there is the record");
+    assert!(front.lines().any(|line| line == "#[repr(C)]"), "the record is laid out as in C");
+    let (code, _) = code.split_once('}').expect("the record ends");
+    let field = |line: &str| Some(line.trim().strip_prefix("pub ")?.strip_suffix(',')?.to_string());
+    code.lines().filter_map(field).collect()
+}
+
 /// The header's functions in Rust's words, in order.
 fn functions_of_header() -> Vec<String> {
     let header = header();
+    let (_, code) = record_apart(&header);
     let is_code = |line: &&str| !line.starts_with('#') && !line.contains(['{', '}']);
-    let code = header.lines().filter(is_code).collect::<Vec<_>>().join(" ");
+    let code = code.lines().filter(is_code).collect::<Vec<_>>().join(" ");
     code.split_terminator(';').map(str::trim).filter(|text| !text.is_empty()).map(in_rust).collect()
 }
 
@@ -117,6 +164,7 @@ fn named(text: &str) -> (&'static str, &str) {
         ["uint32_t", "*"] => "*mut u32",
         ["const", "uint8_t", "*"] => "*const u8",
         ["const", "uint32_t", "*"] => "*const u32",
+        ["struct", "hrt_recent", "*"] => "*mut Recent",
         _ => panic!("no type is known for '{text}'"),
     };
     (kind, &text[start..])

@@ -8,6 +8,7 @@ mod offers;
 mod output;
 mod plan;
 mod progress;
+mod recent;
 mod replace;
 mod run;
 mod signals;

@@ -1,6 +1,7 @@
 //! What a run prints: a line per exit, and the table.
 
 use crate::bytes::put_decimal;
+use crate::recent::Records;
 use crate::tally::Tally;
 use hrt::{Delivery, State};
 use std::io::{self, stdout, Write};
@@ -52,12 +53,25 @@ impl Output {
         out.flush()
     }
 
-    /// The table, and how the run ended.
-    pub fn table(&mut self, tallies: &[Tally], state: &State, end: &str) -> io::Result<()> {
-        let mut rows = vec![HEADS.map(str::to_string)];
-        rows.extend(tallies.iter().enumerate().map(|(flow, tally)| row(flow, tally, state)));
+    /// The table, with three columns more if there are records, and how the run ended.
+    pub fn table(
+        &mut self,
+        tallies: &[Tally],
+        state: &State,
+        records: Option<&Records>,
+        end: &str,
+    ) -> io::Result<()> {
+        let mut rows = vec![HEADS.map(str::to_string).to_vec()];
+        let flows = tallies.iter().enumerate();
+        rows.extend(flows.map(|(flow, tally)| row(flow, tally, state).to_vec()));
+        if let Some(records) = records {
+            rows[0].extend(RECENT_HEADS.map(str::to_string));
+            for (flow, row) in rows[1..].iter_mut().enumerate() {
+                row.extend(records.cells(flow));
+            }
+        }
         let width = |column: usize| rows.iter().map(|row| row[column].len()).max().unwrap_or(0);
-        let widths: Vec<usize> = (0..HEADS.len()).map(width).collect();
+        let widths: Vec<usize> = (0..rows[0].len()).map(width).collect();
         if self.exits {
             self.bytes.push(b'\n');
         }
@@ -84,6 +98,8 @@ const HEADS: [&str; 12] = [
     "flight",
     "flight-bound",
 ];
+
+const RECENT_HEADS: [&str; 3] = ["held", "longest", "most"];
 
 fn row(flow: usize, tally: &Tally, state: &State) -> [String; 12] {
     let shown = |number: Option<u64>| number.map_or("-".to_string(), |number| number.to_string());

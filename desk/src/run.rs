@@ -7,6 +7,7 @@ use crate::offers::{Next, Offer, Offers};
 use crate::output::Output;
 use crate::plan::cant_print;
 use crate::progress::Progress;
+use crate::recent::Records;
 use crate::signals::{self, Interruptible};
 use crate::tally::{Broken, Tally};
 use hrt::{Answer, Plan, Refusal, State};
@@ -19,6 +20,8 @@ pub struct Request {
     pub offers: OsString,
     /// The cycle before which it ends, if it hasn't already.
     pub cycles: Option<u32>,
+    /// How many of each flow's last deliveries are looked at, if any.
+    pub recent: Option<u32>,
     /// The table alone, without the exits.
     pub summary: bool,
 }
@@ -40,6 +43,7 @@ pub fn run(request: Request) -> Result<(), Ending> {
     let exits = !request.summary;
     let mut run = Run {
         cycles: request.cycles,
+        records: request.recent.map(|last| Records::new(state.flows(), last)),
         output: Output::new(exits),
         progress: Progress::new(exits),
         ..Run::new(state, tallies, Offers::of(offers.name, Interruptible(offers.file)))
@@ -47,7 +51,9 @@ pub fn run(request: Request) -> Result<(), Ending> {
     let end = run.go_to_end().map_err(cant_print)?;
     run.progress.end();
     let end = run.last_checks(end);
-    run.output.table(&run.tallies, &run.state, &end.said(run.state.clock())).map_err(cant_print)?;
+    let said = end.said(run.state.clock());
+    let table = run.output.table(&run.tallies, &run.state, run.records.as_ref(), &said);
+    table.map_err(cant_print)?;
     end.ending()
 }
 
@@ -59,6 +65,7 @@ fn refused_plan(refusal: Refusal) -> Ending {
 struct Run<R> {
     state: State,
     tallies: Vec<Tally>,
+    records: Option<Records>,
     offers: Offers<R>,
     /// An offer that is read, and whose cycle hasn't come.
     next: Option<Offer>,
@@ -80,6 +87,7 @@ impl<R: Read> Run<R> {
         Run {
             state,
             tallies,
+            records: None,
             offers,
             next: None,
             ended: false,
@@ -192,6 +200,7 @@ impl<R: Read> Run<R> {
             Err(refusal @ Refusal { number: 11, .. }) => return Ok(Some(End::Refused(refusal))),
             Err(refusal) => return Ok(Some(End::Broken(format!("a step is {refusal}")))),
         };
+        let is_idle = exits.len() == 0;
         for exit in exits {
             match tallies[exit.flow as usize].leave(&exit) {
                 Ok(offer) => output.exit(offer, &exit)?,
@@ -199,6 +208,11 @@ impl<R: Read> Run<R> {
             }
             self.left += 1;
             self.here -= 1;
+        }
+        if let (Some(records), false) = (&mut self.records, is_idle) {
+            if let Err(broken) = records.feed(&self.state) {
+                return Ok(Some(End::Broken(broken)));
+            }
         }
         let clock = self.state.clock();
         self.progress.cycle(clock, self.offered, self.left);
@@ -305,6 +319,23 @@ mod tests {
         let ending = end.ending().unwrap_err();
         assert_eq!(ending.stop, Stop::Broken);
         assert!(ending.messages[0].starts_with("hrt: A BOUND IS BROKEN: packet 1 of flow 0"));
+    }
+
+    #[test]
+    fn a_refused_delivery_is_told() {
+        let mut run = run_from(0, "0 0");
+        run.records = Some(Records::new(0, 4));
+        let broken = "a step's own deliveries are refused 16 0".to_string();
+        assert_eq!(run.go_to_end().unwrap(), End::Broken(broken));
+    }
+
+    #[test]
+    fn records_have_the_last_deliveries() {
+        let mut run = run_from(0, "0 0\n1 0\n2 0");
+        run.records = Some(Records::new(1, 2));
+        assert_eq!(run.records.as_ref().unwrap().cells(0), ["0", "-", "-"]);
+        assert_eq!(run.go_to_end().unwrap(), End::Left);
+        assert_eq!(run.records.unwrap().cells(0), ["2", "8", "0"]);
     }
 
     #[test]

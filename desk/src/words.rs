@@ -3,8 +3,8 @@
 use crate::bytes::number;
 use crate::ending::Ending;
 use crate::run::Request;
-use hrt::limits::LAST_CLOCK;
-use std::ffi::{OsStr, OsString};
+use hrt::limits::{LAST_CLOCK, LEAST_RECENT, MOST_RECENT};
+use std::ffi::OsString;
 use std::os::unix::ffi::OsStrExt;
 
 /// What is asked for.
@@ -20,6 +20,7 @@ pub enum Work {
 struct Words {
     files: Vec<OsString>,
     cycles: Option<u32>,
+    recent: Option<u32>,
     summary: bool,
 }
 
@@ -29,14 +30,14 @@ pub fn read(mut words: impl Iterator<Item = OsString>) -> Result<Work, Ending> {
         Some(word @ ("plan" | "show" | "run")) => word,
         _ => return Err(Ending::wrong("./hrt --help says how to call it".to_string())),
     };
-    let Words { files, cycles, summary } = apart(word, words)?;
+    let Words { files, cycles, recent, summary } = apart(word, words)?;
     let mut files = files.into_iter();
     let work = match (word, files.next(), files.next()) {
         ("plan", Some(text), plan) => Some(Work::Plan(text, plan)),
         ("show", Some(plan), None) => Some(Work::Show(plan)),
         ("run", Some(plan), offers) => {
             let offers = offers.unwrap_or_else(|| OsString::from("-"));
-            Some(Work::Run(Request { plan, offers, cycles, summary }))
+            Some(Work::Run(Request { plan, offers, cycles, recent, summary }))
         }
         _ => None,
     };
@@ -67,29 +68,47 @@ fn apart(word: &str, mut words: impl Iterator<Item = OsString>) -> Result<Words,
             apart.files.extend(words);
             break;
         }
-        match bytes {
-            b"--summary" if word == "run" => apart.summary = true,
-            b"--cycles" if word == "run" => {
+        match (bytes, numbered(bytes)) {
+            (b"--summary", _) if word == "run" => apart.summary = true,
+            (_, Some((option, Some(value)))) if word == "run" => apart.number(option, value)?,
+            (_, Some((option, None))) if word == "run" => {
                 let Some(value) = words.next() else {
-                    return Err(wrong(word, "takes", "a number behind --cycles"));
+                    return Err(wrong(word, "takes", &format!("a number behind {option}")));
                 };
-                apart.cycles = Some(cycles(&value)?);
+                apart.number(option, value.as_bytes())?;
             }
-            [b'-', _, ..] => match bytes.strip_prefix(b"--cycles=") {
-                Some(value) if word == "run" => {
-                    apart.cycles = Some(cycles(OsStr::from_bytes(value))?);
-                }
-                _ => {
-                    let option = format!("option '{}'", next.to_string_lossy());
-                    return Err(wrong(word, "has no", &option));
-                }
-            },
+            ([b'-', _, ..], _) => {
+                let option = format!("option '{}'", next.to_string_lossy());
+                return Err(wrong(word, "has no", &option));
+            }
             _ => apart.files.push(next),
         }
     }
     Ok(apart)
 }
 
-fn cycles(value: &OsStr) -> Result<u32, Ending> {
-    number(value.as_bytes(), "the number of --cycles", 0, LAST_CLOCK).map_err(Ending::wrong)
+/// An option that takes a number, and the number if it stands in the same word.
+fn numbered(word: &[u8]) -> Option<(&'static str, Option<&[u8]>)> {
+    ["--cycles", "--recent"].into_iter().find_map(|option| {
+        match word.strip_prefix(option.as_bytes())? {
+            [] => Some((option, None)),
+            [b'=', value @ ..] => Some((option, Some(value))),
+            _ => None,
+        }
+    })
+}
+
+impl Words {
+    /// Takes the number of an option.
+    fn number(&mut self, option: &str, value: &[u8]) -> Result<(), Ending> {
+        let held = |least, most| {
+            number(value, &format!("the number of {option}"), least, most).map_err(Ending::wrong)
+        };
+        match option {
+            "--cycles" => self.cycles = Some(held(0, LAST_CLOCK)?),
+            _ if self.recent.is_some() => return Err(wrong("run", "takes", "--recent once")),
+            _ => self.recent = Some(held(LEAST_RECENT, MOST_RECENT)?),
+        }
+        Ok(())
+    }
 }

@@ -5,6 +5,7 @@ mod faults {
     pub mod bounds;
     pub mod engine;
     pub mod listing;
+    pub mod recent;
 }
 
 use second::compare::listing;
@@ -23,6 +24,14 @@ fn in_the_engine() -> Vec<Planted<'static>> {
         (name.to_string(), Box::new(move || drop(parts::engine(&host, 1, Extent::Gate))))
     };
     faults::engine::FAULTS.iter().map(planted).collect()
+}
+
+fn in_recent_flights() -> Vec<Planted<'static>> {
+    let planted = |(name, fault): &(&str, faults::recent::Fault)| -> Planted<'static> {
+        let host = faults::recent::Faulty(*fault);
+        (name.to_string(), Box::new(move || drop(parts::engine(&host, 1, Extent::Gate))))
+    };
+    faults::recent::FAULTS.iter().map(planted).collect()
 }
 
 fn in_the_bounds() -> Vec<Planted<'static>> {
@@ -73,7 +82,7 @@ fn is_noticed(compared: &dyn Fn()) -> bool {
 fn faults_are_noticed() {
     let hook = take_hook();
     set_hook(Box::new(|_| ()));
-    let planted = [in_the_engine(), in_the_bounds(), in_the_listing()];
+    let planted = [in_the_engine(), in_recent_flights(), in_the_bounds(), in_the_listing()];
     let missed: Vec<_> = planted
         .iter()
         .flatten()

@@ -9,7 +9,7 @@ use faults::desk::FAULTS;
 use second::compare::Tally;
 use second::compare::parts::Extent;
 use second::desk::calls;
-use second::desk::expected::{EXIT_HEADS, HEADS};
+use second::desk::expected::{EXIT_HEADS, HEADS, RECENT_HEADS};
 use second::desk::program::{Caller, Program};
 use std::panic::{AssertUnwindSafe, catch_unwind, set_hook, take_hook};
 
@@ -46,7 +46,8 @@ fn columns(told: &str) -> Option<String> {
         Some(line.split_whitespace().collect::<Vec<_>>())
     });
     let (left, right) = (left?, right?);
-    let heads = [EXIT_HEADS, HEADS].map(|heads| heads.split(' ').collect::<Vec<_>>());
+    let with_recent = format!("{HEADS} {RECENT_HEADS}");
+    let heads = [EXIT_HEADS, HEADS, &with_recent].map(|heads| heads.split(' ').collect::<Vec<_>>());
     let heads =
         heads.iter().find(|heads| heads.len() == left.len() && heads.len() == right.len())?;
     let differ = (0..heads.len()).filter(|&at| left[at] != right[at]).map(|at| heads[at]);

@@ -1,7 +1,8 @@
 //! The archive, through the binding that every Rust host uses.
 
 use crate::host::{Bounds, Engine};
-use hrt::calls;
+use crate::recent::Record;
+use hrt::{Recent, calls};
 
 /// The linked archive.
 pub struct Archive;
@@ -33,7 +34,18 @@ impl Engine for Archive {
         calls::step(state, delivery)
     }
 
+    fn recent(&self, state: &[u32], deliveries: &[u32], records: &mut [Record], last: u32) -> u64 {
+        calls::recent(state, deliveries, as_bound(records), last)
+    }
+
     fn write(&self, state: &[u32], notes: &[u8], target: &mut [u8]) -> u64 {
         calls::write(state, notes, target)
     }
+}
+
+/// The same records where they stand, as the binding has them: 35 words each.
+fn as_bound(records: &mut [Record]) -> &mut [Recent] {
+    const { assert!(size_of::<Record>() == size_of::<Recent>() && size_of::<Record>() == 35 * 4) };
+    // SAFETY: both are words alone, as many and laid out as in C.
+    unsafe { std::slice::from_raw_parts_mut(records.as_mut_ptr().cast(), records.len()) }
 }

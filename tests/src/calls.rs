@@ -2,6 +2,7 @@
 
 use crate::book::Book;
 use crate::plan::{MOST_BYTES, RECORD, Refusal, TRAILER, read, refuse};
+use crate::recent::{self, Record};
 use crate::state::{judge, words};
 
 pub type Answer = Result<u64, Refusal>;
@@ -43,6 +44,25 @@ pub fn step(memory: &mut [u32], delivery: &mut [u32]) -> Answer {
     let exits = exits.concat();
     delivery[..exits.len()].copy_from_slice(&exits);
     Ok(exits.len() as u64 / 5)
+}
+
+/// Recent flights: 8 and 9, then 16, 17, 12.
+pub fn recent(memory: &[u32], deliveries: &[u32], records: &mut [Record], last: u32) -> Answer {
+    let plan = judge(memory)?.plan;
+    if records.len() < plan.flows.len() {
+        return refuse(16, 0);
+    }
+    if !(1..=recent::ROOM as u32).contains(&last) {
+        return refuse(17, 0);
+    }
+    let groups = recent::groups(deliveries);
+    if !groups.iter().all(|&group| recent::is_of_plan(&plan, group)) {
+        return refuse(12, 0);
+    }
+    for group in groups {
+        recent::feed(records, group, last as usize);
+    }
+    Ok(0)
 }
 
 /// Writing: 8 and 9, then 1, 15.

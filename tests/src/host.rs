@@ -2,6 +2,7 @@
 //! A call answers its value, or number × 2^32 + place; the window call 65,536 + number.
 
 use crate::calls::Answer;
+use crate::recent::Record;
 
 pub trait Bounds {
     fn window(&self, file: &[u8], flow: u32) -> u32;
@@ -13,6 +14,7 @@ pub trait Engine {
     fn reset(&self, file: &[u8], state: &mut [u32]) -> u64;
     fn offer(&self, state: &mut [u32], flow: u32) -> u64;
     fn step(&self, state: &mut [u32], delivery: &mut [u32]) -> u64;
+    fn recent(&self, state: &[u32], deliveries: &[u32], records: &mut [Record], last: u32) -> u64;
     fn write(&self, state: &[u32], notes: &[u8], target: &mut [u8]) -> u64;
 }
 

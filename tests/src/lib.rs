@@ -1,5 +1,6 @@
 //! A second simulator of the torus engine and a second reckoning of its bounds, written from
-//! 01's text by the packet book's lines; and the comparison of another engine with it.
+//! 01's text by the packet book's lines, and of U1's records from 02's; and the comparison of another
+//! engine with it.
 
 #[cfg(any(feature = "bounds", feature = "engine"))]
 pub mod archive;
@@ -11,6 +12,7 @@ pub mod host;
 pub mod plan;
 pub mod promises;
 pub mod random;
+pub mod recent;
 pub mod slips;
 pub mod state;
 pub mod window;

@@ -1,9 +1,11 @@
-//! Reset, offer, step and write.
+//! Reset, offer, step, recent flights and write.
 
 use super::plan::{numbers, read};
+use super::recent::recent;
 use super::state::{EMPTY, FlowWords, Register, State, state};
 use super::{Plain, next, refused};
 use second::host::Engine;
+use second::recent::Record;
 use std::mem::replace;
 
 /// Which flow enters at each client (its number + 1), decided and spent; all buckets counted.
@@ -139,6 +141,10 @@ impl Engine for Plain {
         let entering = enter(sx, flows, registers);
         let cycle = Cycle { sx, sy, clock, flows, entering };
         route(&cycle, registers, delivery.as_chunks_mut().0) as u64
+    }
+
+    fn recent(&self, words: &[u32], deliveries: &[u32], records: &mut [Record], last: u32) -> u64 {
+        recent(words, deliveries, records, last)
     }
 
     fn write(&self, words: &[u32], notes: &[u8], target: &mut [u8]) -> u64 {

@@ -1,9 +1,10 @@
 //! The calls in plain Rust: the honest baseline. Written for speed, with every check of 01's
-//! table, on the same memory; safe Rust with no heap.
+//! table and of U1, on the same memory; safe Rust with no heap.
 
 mod bounds;
 mod engine;
 mod plan;
+mod recent;
 mod state;
 
 /// The plain engine.

@@ -67,6 +67,72 @@ pub const FAULTS: &[Fault] = &[
         "exit flow serial offer entry wait deflections flight",
     ),
     (
+        "the last L - 1 deliveries for the last L",
+        |desk, words, input| {
+            with_recent(desk, words, input, |last| match last {
+                2..=16 => last - 1,
+                _ => last,
+            })
+        },
+        "columns held",
+    ),
+    (
+        "held = left",
+        |desk, words, input| of_recent(desk.answer(words, input), |row| row[12] = row[3].clone()),
+        "columns held.",
+    ),
+    (
+        "the longest flight of all for that of the last L",
+        |desk, words, input| of_recent(desk.answer(words, input), |row| row[13] = row[10].clone()),
+        "columns longest.",
+    ),
+    (
+        "the most deflections not told",
+        |desk, words, input| {
+            of_recent(desk.answer(words, input), |row| {
+                if row[14] != "-" {
+                    row[14] = "0".into();
+                }
+            })
+        },
+        "columns most.",
+    ),
+    (
+        "0 where nothing has left",
+        |desk, words, input| {
+            of_recent(desk.answer(words, input), |row| {
+                for cell in row[13..].iter_mut().filter(|cell| *cell == "-") {
+                    *cell = "0".into();
+                }
+            })
+        },
+        "columns longest most.",
+    ),
+    (
+        "recent flights unasked",
+        |desk, words, input| match (words, words.contains(&"--recent")) {
+            (["run", "run.plan", ..], false) => {
+                desk.answer(&[words, &["--recent=4"]].concat(), input)
+            }
+            _ => desk.answer(words, input),
+        },
+        "flight-bound  held  longest  most",
+    ),
+    (
+        "L 17 taken as 16",
+        |desk, words, input| with_recent(desk, words, input, |last| last.min(16)),
+        "the number of --recent is 17",
+    ),
+    (
+        "the second of two --recent passed over",
+        |desk, words, input| {
+            let once = words.contains(&"--recent") && words.contains(&"--recent=4");
+            let words = words.iter().filter(|word| !once || **word != "--recent=4");
+            desk.answer(&words.copied().collect::<Vec<_>>(), input)
+        },
+        "run takes --recent once",
+    ),
+    (
         "status 0 at a faulty line",
         |desk, words, input| match desk.answer(words, input) {
             output if output.err.starts_with("offers:") => Output { status: 0, ..output },
@@ -164,7 +230,7 @@ fn exit(line: &str) -> Option<Vec<i64>> {
 fn of_rows(output: Output, change: impl Fn(&mut Vec<String>)) -> Output {
     of_lines(output, |line| {
         let mut cells: Vec<String> = line.split_whitespace().map(String::from).collect();
-        if cells.len() != 12 || cells[0] == "flow" {
+        if ![12, 15].contains(&cells.len()) || cells[0].parse::<u32>().is_err() {
             return line.to_string();
         }
         let mut rest = line;
@@ -177,6 +243,31 @@ fn of_rows(output: Output, change: impl Fn(&mut Vec<String>)) -> Output {
         change(&mut cells);
         cells.iter().zip(widths).map(|(cell, width)| format!("{cell:>width$}")).collect()
     })
+}
+
+/// Changes the cells of each flow's row where recent flights are asked for.
+fn of_recent(output: Output, change: impl Fn(&mut Vec<String>)) -> Output {
+    of_rows(output, |row| {
+        if row.len() == 15 {
+            change(row);
+        }
+    })
+}
+
+/// The call with another number of --recent.
+fn with_recent(
+    desk: &Program,
+    words: &[&str],
+    input: &[u8],
+    change: impl Fn(u64) -> u64,
+) -> Output {
+    let mut words = words.to_vec();
+    let at = words.iter().position(|word| *word == "--recent").map(|at| at + 1);
+    let last = at.and_then(|at| words.get(at)?.parse().ok()).map(|last| change(last).to_string());
+    if let (Some(at), Some(last)) = (at, &last) {
+        words[at] = last;
+    }
+    desk.answer(&words, input)
 }
 
 fn exits_exchanged(desk: &Program, words: &[&str], input: &[u8]) -> Output {

@@ -2,6 +2,7 @@
 
 use second::calls;
 use second::host::{Engine, returned};
+use second::recent::Record;
 
 /// What a call gave, for a fault to change: its answer, the state, the deliveries of a step and
 /// the target of writing.
@@ -52,6 +53,10 @@ impl Engine for Faulty {
     fn step(&self, state: &mut [u32], delivery: &mut [u32]) -> u64 {
         let answer = returned(calls::step(state, delivery));
         self.give(Given { call: "step", answer, state, delivery, target: &mut [] })
+    }
+
+    fn recent(&self, state: &[u32], deliveries: &[u32], records: &mut [Record], last: u32) -> u64 {
+        returned(calls::recent(state, deliveries, records, last))
     }
 
     fn write(&self, state: &[u32], notes: &[u8], target: &mut [u8]) -> u64 {

@@ -10,6 +10,7 @@ pub fn all_came_up(tally: &Tally) {
     tally.must_have_come_up("reset", &[1, 2, 3, 4, 5, 6, 7, 8]);
     tally.must_have_come_up("offer", &[8, 9, 12, 13]);
     tally.must_have_come_up("step", &[8, 9, 10, 11]);
+    tally.must_have_come_up("recent", &[8, 9, 16, 17, 12]);
     tally.must_have_come_up("write", &[8, 9, 1, 15]);
 }
 
@@ -30,14 +31,15 @@ pub fn offer(host: &impl Engine, tally: &mut Tally, state: &mut Twin<u32>, flow:
     tally.memory(call, state);
 }
 
-/// A step that is lent so many words of noise for its deliveries.
+/// A step that is lent so many words of noise for its deliveries. Gives these and the count of exits,
+/// if it is accepted.
 pub fn step(
     host: &impl Engine,
     tally: &mut Tally,
     random: &mut Random,
     state: &mut Twin<u32>,
     room: usize,
-) {
+) -> Option<(Twin<u32>, u64)> {
     let before = state.expected().to_vec();
     let mut delivery = Twin::noise_words(random, room);
     let expected = calls::step(state.expected(), delivery.expected());
@@ -46,6 +48,7 @@ pub fn step(
     tally.answer(call, expected, got);
     tally.memory(call, state);
     tally.memory(call, &delivery);
+    expected.ok().map(|exits| (delivery, exits))
 }
 
 /// Writing to a target of so many bytes of noise.

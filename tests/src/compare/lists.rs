@@ -1,6 +1,7 @@
 //! Lists of calls after a reset: the book is fed each call's kind and arguments, and after each
 //! call its answer, its deliveries and the words of its state are compared, whole.
 
+use super::recent::{self, Kept};
 use super::{Call, Tally, Twin, engine};
 use crate::book::{Book, Delivery};
 use crate::calls::Answer;
@@ -19,6 +20,7 @@ pub struct List<'a, E> {
     state: Twin<u32>,
     windows: Windows,
     delivered: Vec<Delivery>,
+    kept: Kept,
     file: Vec<u8>,
 }
 
@@ -33,7 +35,8 @@ impl<'a, E: Engine> List<'a, E> {
         let watched = random.index(flows);
         let book = Book::new(plan);
         let windows = windows(&book, |f| flows <= 6 || f == watched);
-        List { host, book, state, windows, delivered: Vec::new(), file }
+        let kept = Kept::new(random, flows);
+        List { host, book, state, windows, delivered: Vec::new(), kept, file }
     }
 
     pub fn offer(&mut self, tally: &mut Tally, flow: u32) {
@@ -56,6 +59,9 @@ impl<'a, E: Engine> List<'a, E> {
         self.compare(tally, "step", room, expected, got);
         let with = &("deliveries", self.book.clock, &self.file);
         tally.memory(Call { name: "step", with }, &delivery);
+        if let Ok(exits) = expected {
+            self.kept.feed(self.host, tally, random, &mut self.state, delivery, exits);
+        }
     }
 
     fn compare(
@@ -82,13 +88,17 @@ impl<'a, E: Engine> List<'a, E> {
             self.state.lent.end = whole.start + random.index(size);
         }
         let short = self.state.lent != whole;
-        match random.from(0, 3) {
+        match random.from(0, 4) {
             0 if short => engine::offer(self.host, tally, &mut self.state, 0),
-            1 if short => engine::step(self.host, tally, random, &mut self.state, 1280),
+            1 if short => drop(engine::step(self.host, tally, random, &mut self.state, 1280)),
             2 if short => engine::reset(self.host, tally, &self.file, &mut self.state),
             2 => {
                 let cut = &self.file[..random.index(self.file.len())];
                 engine::reset(self.host, tally, cut, &mut self.state)
+            }
+            3 => {
+                let flows = self.book.plan.flows.len();
+                recent::on_words(self.host, tally, random, &mut self.state, flows)
             }
             _ => {
                 let notes = random.bytes(9);

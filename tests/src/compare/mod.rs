@@ -2,11 +2,13 @@
 //! lent to a call, with noise past what is used and around what is lent.
 
 pub mod bounds;
+mod deliveries;
 pub mod engine;
 pub mod listing;
 pub mod lists;
 pub mod parts;
 pub mod plans;
+pub mod recent;
 pub mod states;
 
 use crate::calls::Answer;

@@ -1,5 +1,6 @@
 //! States that no run reaches, damaged words, and lent lengths from 0.
 
+use super::recent::{self, Kept};
 use super::{Tally, Twin, engine, plans};
 use crate::book::{Book, Side};
 use crate::host::Engine;
@@ -18,7 +19,7 @@ pub fn boundaries(host: &impl Engine, tally: &mut Tally, random: &mut Random) {
         for value in telling_values(small[at]) {
             let mut state = small.clone();
             state[at] = value;
-            three_calls(host, tally, random, &state);
+            four_calls(host, tally, random, &state);
             if at < HEADER {
                 // What the first eight words say comes before the length of the rest.
                 calls_with_past(host, tally, random, &state[..HEADER], 0);
@@ -53,8 +54,9 @@ fn telling_values(word: u32) -> Vec<u32> {
     near.into_iter().chain(ends).chain([u32::MAX - 1, u32::MAX]).collect()
 }
 
-/// Offer, step and write, each on its own copy of the words, with some noise past them.
-fn three_calls(host: &impl Engine, tally: &mut Tally, random: &mut Random, state: &[u32]) {
+/// Offer, step, recent flights and write, each on its own copy of the words, with some noise past
+/// them.
+fn four_calls(host: &impl Engine, tally: &mut Tally, random: &mut Random, state: &[u32]) {
     let past = random.index(5);
     calls_with_past(host, tally, random, state, past);
 }
@@ -81,6 +83,8 @@ fn calls_with_past(
     };
     let stepped = &mut Twin::words(random, state, past);
     engine::step(host, tally, random, stepped, room);
+    let fed = &mut Twin::words(random, state, past);
+    recent::on_words(host, tally, random, fed, flows as usize);
     let written = &mut Twin::words(random, state, past);
     write(host, tally, random, written, flows as usize);
 }
@@ -108,26 +112,31 @@ fn lent_lengths(host: &impl Engine, tally: &mut Tally, random: &mut Random, stat
     }
 }
 
-/// Made-up states of a plan on this torus: calls on them, steps in a row, and damaged copies.
+/// Made-up states of a plan on this torus: calls on them, steps in a row with their flights kept, and
+/// damaged copies.
 pub fn round(host: &impl Engine, tally: &mut Tally, random: &mut Random, sx: i64, sy: i64) {
     let flows = random::flow_count(random);
     let plan = random::plan(random, sx, sy, flows);
     let state = random::state(random, &plan);
-    three_calls(host, tally, random, &state);
+    four_calls(host, tally, random, &state);
     let mut run = Twin::words(random, &state, 2);
+    let mut kept = Kept::new(random, flows);
     for _ in 0..random.from(1, 12) {
-        engine::step(host, tally, random, &mut run, 5 * plan.routers());
+        let step = engine::step(host, tally, random, &mut run, 5 * plan.routers());
+        if let Some((delivery, exits)) = step {
+            kept.feed(host, tally, random, &mut run, delivery, exits);
+        }
     }
     for _ in 0..8 {
         let mut damaged = state.clone();
         damage(random, &plan, &mut damaged);
-        three_calls(host, tally, random, &damaged);
+        four_calls(host, tally, random, &damaged);
     }
     let file = plan.file(&random::notes(random, &plan));
     let length = (plan.state_words() + random.index(4)).saturating_sub(1);
     let mut memory = Twin::noise_words(random, length);
     engine::reset(host, tally, &file, &mut memory);
-    three_calls(host, tally, random, memory.expected());
+    four_calls(host, tally, random, memory.expected());
     let mut damaged = file;
     plans::damage(random, &mut damaged);
     engine::reset(host, tally, &damaged, &mut memory);

@@ -34,7 +34,8 @@ fn sentence(got: Output, status: i32, text: &str) {
 fn words(program: &Program, tally: &mut Tally) {
     let plan = "a text, and a plan file to write if it isn't the text's name with .plan";
     let run = "a plan file, and a file of offers if they don't come on standard input";
-    let cases: [(&[&str], String); 14] = [
+    let last = "it must be 1 to 16";
+    let cases: [(&[&str], String); 22] = [
         (&[], "./hrt --help says how to call it".to_string()),
         (&["lists"], "./hrt --help says how to call it".to_string()),
         (&["plan"], format!("plan takes {plan}; ./hrt plan --help says more")),
@@ -63,6 +64,32 @@ fn words(program: &Program, tally: &mut Tally) {
             &["run", "a", "--cycles=x"],
             "the number of --cycles is 'x', which is no whole number; it must be 0 to 4294967295"
                 .to_string(),
+        ),
+        (
+            &["run", "a", "--recent"],
+            "run takes a number behind --recent; ./hrt run --help says more".to_string(),
+        ),
+        (&["run", "a", "--recent", "0"], format!("the number of --recent is 0; {last}")),
+        (&["run", "a", "--recent", "17"], format!("the number of --recent is 17; {last}")),
+        (
+            &["run", "a", "--recent=4294967297"],
+            format!("the number of --recent is 4294967297; {last}"),
+        ),
+        (
+            &["run", "a", "--recent", "four"],
+            format!("the number of --recent is 'four', which is no whole number; {last}"),
+        ),
+        (
+            &["run", "a", "--recent="],
+            format!("the number of --recent is '', which is no whole number; {last}"),
+        ),
+        (
+            &["run", "a", "--recent", "4", "--recent=4"],
+            "run takes --recent once; ./hrt run --help says more".to_string(),
+        ),
+        (
+            &["plan", "a", "--recent", "4"],
+            "plan has no option '--recent'; ./hrt plan --help says more".to_string(),
         ),
         (
             &["run", "-"],

@@ -1,7 +1,8 @@
-//! What `run` prints, by the packet book's lines.
+//! What `run` prints, by the packet book's lines and U1's records.
 
 use crate::book::{Book, Line};
 use crate::plan::Plan;
+use crate::recent::{Record, feed};
 use crate::window::{flight_bound, window};
 use std::fmt::Write;
 
@@ -20,6 +21,7 @@ pub enum Entry {
 #[derive(Clone, Copy, Debug)]
 pub struct Options {
     pub cycles: Option<i64>,
+    pub recent: Option<usize>,
     pub summary: bool,
 }
 
@@ -30,13 +32,15 @@ struct Run {
     refused: Vec<u64>,
     /// The book's lines in the order of their exits.
     exits: Vec<usize>,
+    /// The flows' last deliveries, if they are asked for.
+    records: Option<Vec<Record>>,
     /// How it ended.
     end: &'static str,
 }
 
 /// What is printed for these entries.
 pub fn printed(plan: &Plan, entries: &[Entry], options: Options) -> String {
-    let run = ran(plan, entries, options.cycles);
+    let run = ran(plan, entries, options);
     let mut text = String::new();
     if !options.summary {
         text += EXIT_HEADS;
@@ -55,16 +59,17 @@ pub fn printed(plan: &Plan, entries: &[Entry], options: Options) -> String {
     text
 }
 
-fn ran(plan: &Plan, entries: &[Entry], cycles: Option<i64>) -> Run {
+fn ran(plan: &Plan, entries: &[Entry], options: Options) -> Run {
     let flows = plan.flows.len();
     let (offered, refused) = (vec![0; flows], vec![0; flows]);
     let book = Book::new(plan.clone());
-    let mut run = Run { book, offered, refused, exits: Vec::new(), end: "" };
+    let records = options.recent.map(|_| vec![Record::default(); flows]);
+    let mut run = Run { book, offered, refused, exits: Vec::new(), records, end: "" };
     let mut entries = entries.iter().peekable();
     let mut by_packet = std::collections::HashMap::new();
     loop {
         let clock = run.book.clock;
-        if cycles == Some(clock) {
+        if options.cycles == Some(clock) {
             run.end = "as asked";
             return run;
         }
@@ -97,8 +102,12 @@ fn ran(plan: &Plan, entries: &[Entry], cycles: Option<i64>) -> Run {
             run.end = "everything has left";
             return run;
         }
-        for [flow, serial, ..] in run.book.step(5 * plan.routers()).unwrap() {
+        for delivery in run.book.step(5 * plan.routers()).unwrap() {
+            let [flow, serial, ..] = delivery;
             run.exits.push(by_packet[&(flow as usize, serial as i64)]);
+            if let (Some(records), Some(last)) = (&mut run.records, options.recent) {
+                feed(records, delivery, last);
+            }
         }
     }
 }
@@ -106,11 +115,20 @@ fn ran(plan: &Plan, entries: &[Entry], cycles: Option<i64>) -> Run {
 pub const EXIT_HEADS: &str = "exit flow serial offer entry wait deflections flight";
 pub const HEADS: &str =
     "flow offered refused left waiting flying wait wait-bound spare nearest flight flight-bound";
+pub const RECENT_HEADS: &str = "held longest most";
 
 /// The table: columns to the right, two blanks apart.
 fn table(run: &Run) -> String {
     let mut rows = vec![HEADS.split(' ').map(String::from).collect::<Vec<_>>()];
     rows.extend((0..run.book.plan.flows.len()).map(|f| row(run, f)));
+    if let Some(records) = &run.records {
+        rows[0].extend(RECENT_HEADS.split(' ').map(String::from));
+        for (row, record) in rows[1..].iter_mut().zip(records) {
+            let none = record.held == 0;
+            let shown = |number: u32| if none { "-".to_string() } else { number.to_string() };
+            row.extend([record.held.to_string(), shown(record.longest), shown(record.most)]);
+        }
+    }
     let width = |column: usize| rows.iter().map(|row| row[column].len()).max().unwrap();
     let widths: Vec<_> = (0..rows[0].len()).map(width).collect();
     let mut text = String::new();

@@ -147,7 +147,7 @@ pub fn streams(program: &Program, tally: &mut Tally) {
     let plan = Plan { sx: 4, sy: 4, flows: flows.to_vec() };
     write(&program.file("mode.plan"), &plan.file(b""));
     let [first, second] = [(0, 0), (6, 1)].map(|(cycle, flow)| Entry::Offer { cycle, flow });
-    let options = Options { cycles: None, summary: false };
+    let options = Options { cycles: None, recent: None, summary: false };
     let expected = printed(&plan, &[first, second, Entry::Fault], options);
     let what = "a line is CYCLE FLOW, as 120 3";
     let last = "it must be 0 to 4294967294";

@@ -15,14 +15,9 @@ pub fn round(program: &Program, tally: &mut Tally, random: &mut Random, sx: i64,
     let (entries, stream) = stream(random, &plan, offers);
     let bounded = random.percent(30) || is_long(&plan, offers);
     let cycles = bounded.then(|| random.from(0, 2000));
-    compare(
-        program,
-        tally,
-        &plan,
-        &entries,
-        &stream,
-        Options { cycles, summary: random.percent(20) },
-    );
+    let recent = random.percent(40).then(|| 1 + random.index(16));
+    let options = Options { cycles, recent, summary: random.percent(20) };
+    compare(program, tally, &plan, &entries, &stream, options);
 }
 
 /// May a run of so many offers take long to its end?
@@ -88,9 +83,13 @@ fn compare(
     let file = plan.file(b"");
     write(&program.file("run.plan"), &file);
     let cycles = options.cycles.map(|cycles| cycles.to_string());
+    let recent = options.recent.map(|last| last.to_string());
     let mut words = vec!["run", "run.plan"];
     if let Some(cycles) = &cycles {
         words.extend(["--cycles", cycles]);
+    }
+    if let Some(recent) = &recent {
+        words.extend(["--recent", recent]);
     }
     if options.summary {
         words.push("--summary");
@@ -110,7 +109,7 @@ pub fn full_queue(program: &Program, tally: &mut Tally) {
     let mut entries = vec![Entry::Offer { cycle: 0, flow: 1 }; 65_540];
     entries.push(Entry::Offer { cycle: 40, flow: 0 });
     let text = "0 1\n".repeat(65_540) + "40 0\n";
-    let options = Options { cycles: Some(2000), summary: false };
+    let options = Options { cycles: Some(2000), recent: Some(16), summary: false };
     compare(program, tally, &plan, &entries, text.as_bytes(), options);
 }
 
@@ -125,7 +124,7 @@ pub fn met_exactly(program: &Program, tally: &mut Tally) {
             text += &format!("{cycle} {flow}\n");
         }
     }
-    let options = Options { cycles: None, summary: true };
+    let options = Options { cycles: None, recent: None, summary: true };
     let table = printed(&plan, &entries, options);
     assert!(table.lines().any(|row| row.split_whitespace().nth(9) == Some("0")), "{table}");
     compare(program, tally, &plan, &entries, text.as_bytes(), options);
