@@ -1,11 +1,12 @@
 -- What an accepted call has: its number is 0, every group can be kept, and the records are those with all groups. Rests on Fed and
 -- Groups.
-use mathlib.Core.Bool.{false}
+use mathlib.Core.Bool.{false, not, _&&_}
 use mathlib.Core.List.{List}
 use mathlib.Core.Path.{_≡_, refl, sym, ap, _∙_}
 use Prim.Native.Nat.{ℕ, zero, suc, _/_, _≤_, _<_}
 use native.Mathlib.Omega.{arith}
 use borrow.Author.Tests.{leb-true, ltb-false, not-false, le-ltb, le-leb}
+use lib.Dec.{ltb, leb}
 use lib.ListN.{length}
 use Rattle.laws.specs.Count.{any}
 use Rattle.laws.specs.Turns.{turns}
@@ -27,10 +28,10 @@ use Rattle.state.proofs.View.{view-count}
 use Rattle.cycle.proofs.Facts.{flow-ok}
 use Rattle.recent.specs.declared.Recent.{Recent}
 use Rattle.recent.specs.Recent.{mostKept}
-use Rattle.feed.specs.Groups.{groupAt, groupsOf, strange}
+use Rattle.delivery.specs.Groups.{groupAt, groupsOf, strange}
 use Rattle.feed.specs.Feed.{fedAll, feedNumber, feedOn}
 use Rattle.feed.specs.Inner.{Keepable, Feedable, fedFirst, firstNumber, callNumber, groupsFed}
-use Rattle.feed.proofs.Groups.{Genuine, known-genuine, flies-most}
+use Rattle.delivery.proofs.Groups.{Genuine, known-genuine, flies-most}
 use Rattle.feed.proofs.Fed.{fed-groups}
 
 -- what a number of 0 leaves
@@ -43,14 +44,14 @@ pub record Accepted (p : Plan) (ds : List Delivery) (count last : ℕ) : Type 0 
 accepted : (p : Plan) (ds : List Delivery) (count last : ℕ) → feedNumber p ds count last ≡ 0 → Accepted p ds count last
 unfolding feedNumber
 accepted p ds count last e =
-    let first = passed _ 15 _ e in
-    let limits = passed _ 16 _ (first .1) in
+    let first = passed (ltb count (length (p .flows))) 15 _ e in
+    let limits = passed (not (leb 1 last && leb last mostKept)) 16 _ (first .1) in
     let both = and-true _ _ (not-false _ (limits .0)) in
     record {
       enough = ltb-false _ _ (first .0);
       some = leb-true _ _ (both .0);
       few = leb-true _ _ (both .1);
-      known = passed _ 11 _ (limits .1) .0;
+      known = passed (any (strange p) ds) 11 0 (limits .1) .0;
     }
 
 accepted-number : (p : Plan) (ds : List Delivery) (count last : ℕ) → Accepted p ds count last → feedNumber p ds count last ≡ 0

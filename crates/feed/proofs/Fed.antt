@@ -9,7 +9,7 @@ use Rattle.laws.proofs.Turns.{turns-more}
 use Rattle.router.specs.Delivery.{Delivery}
 use Rattle.recent.specs.declared.Recent.{Recent}
 use Rattle.recent.specs.Recent.{noRecord}
-use Rattle.feed.specs.Groups.{groupAt}
+use Rattle.delivery.specs.Groups.{groupAt}
 use Rattle.feed.specs.Feed.{fedOne, fedAll}
 use Rattle.feed.specs.Inner.{keptWith, fedFirst}
 

@@ -1,4 +1,3 @@
--- Laws of groups and of feeding.
-pub mod Groups
+-- Laws of feeding.
 pub mod Fed
 pub mod Accepted

@@ -15,7 +15,7 @@ use Rattle.state.specs.Forms.{stateNumber}
 use Rattle.state.specs.Outcome.{Outcome, outcome, unless}
 use Rattle.recent.specs.declared.Recent.{Recent}
 use Rattle.recent.specs.Recent.{mostKept, withDelivery, noRecord}
-use Rattle.feed.specs.Groups.{groupsOf, strange}
+use Rattle.delivery.specs.Groups.{groupsOf, strange}
 
 -- a delivery: its flow's record keeps its flight and D; all other records stay
 unfoldable pub fedOne : (last : ℕ) → Delivery → List Recent → List Recent

@@ -1,27 +1,18 @@
 -- What inner functions ask of groups and promise of them. No call's promise names these; proofs/ ties them to the definitions of Feed.
 use mathlib.Core.List.{List}
-use Prim.Native.Nat.{ℕ, zero, suc, _+_, _*_, _/_, _≤_, _<_}
+use Prim.Native.Nat.{ℕ, zero, suc, _/_, _≤_, _<_}
 use lib.ListN.{length}
 use Rattle.laws.specs.Turns.{turns}
 use Rattle.flow.specs.Limits.{exitSize}
 use Rattle.flight.specs.Flight.{flight}
 use Rattle.router.specs.Delivery.{Delivery}
 use Rattle.state.specs.Read.{planIn}
-use Rattle.state.specs.Facts.{StateFacts}
 use Rattle.state.specs.Forms.{stateNumber}
 use Rattle.recent.specs.declared.Recent.{Recent}
 use Rattle.recent.specs.Recent.{mostKept, withDelivery}
-use Rattle.feed.specs.Groups.{groupAt, groupsOf}
+use Rattle.delivery.specs.Groups.{groupAt, groupsOf}
+use Rattle.delivery.specs.Inner.{HasGroup}
 use Rattle.feed.specs.Feed.{fedOne, feedNumber}
-
--- the deliveries have a group i
-abbrev pub HasGroup : List ℕ → ℕ → Type 0
-HasGroup w i = exitSize * i + exitSize ≤ length w
-
--- with a state
-pub record StateGroup (w deliveries : List ℕ) (i : ℕ) : Type 0 where
-  pub facts : StateFacts w
-  pub has : HasGroup deliveries i
 
 -- group i can be kept in a record of the last L
 pub record Keepable (w : List ℕ) (i last : ℕ) : Type 0 where

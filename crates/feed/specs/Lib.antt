@@ -1,4 +1,3 @@
 -- Feeding deliveries to the records of recent flights, in 02's words.
-pub mod Groups
 pub mod Feed
 pub mod Inner

@@ -1,76 +1,16 @@
-// Feeding a step's deliveries to the records of recent flights. Rests on recent, valid and cycle.
-use flow::Flow;
+// Feeding a step's deliveries to the records of recent flights. Rests on delivery, recent and valid.
 use plan::Answer;
 use recent::Recent;
 ghost use mathlib.Core.Path.{_≡_};
-ghost use Prim.Native.Nat.{_≤_};
 ghost use lib.ListN.{length};
-ghost use Rattle.laws.specs.Count.{any};
-ghost use Rattle.flow.specs.Plan.{mostSize};
-ghost use Rattle.flow.specs.Ranges.{FlowOk};
 ghost use Rattle.plan.specs.Refusals.{answerBy};
 ghost use Rattle.state.specs.Facts.{StateFacts};
 ghost use Rattle.state.specs.Read.{planIn};
 ghost use Rattle.state.specs.Outcome.{outcome};
-ghost use Rattle.feed.specs.Groups.{groupAt, groupsOf, impossible, strange};
+ghost use Rattle.delivery.specs.Groups.{groupAt, groupsOf};
+ghost use Rattle.delivery.specs.Inner.{HasGroup};
 ghost use Rattle.feed.specs.Feed.{feedNumber, feedOn};
-ghost use Rattle.feed.specs.Inner.{HasGroup, StateGroup, Keepable, Feedable, keptWith, fedFirst, callNumber, groupsFed};
-
-// The places of the entry cycle, exit cycle and deflections in a group of an exit's words.
-const ENTRY: usize = 2;
-
-const EXIT: usize = 3;
-
-const DEFLECTIONS: usize = 4;
-
-// No packet of flow f has this entry, exit and D.
-fn impossible(sx: u32, sy: u32, f: Flow, entry: u32, exit: u32, d: u32) -> bool
-    requires { ⌜ (FlowOk sx sy f) × ((sx ≤ mostSize) × (sy ≤ mostSize)) ⌝ }
-    ensures { λ r. ⌜ r ≡ impossible sx sy f entry exit d ⌝ }
-{
-    let dy = f.offset_y(sy);
-    if dy < d {
-        return true;
-    }
-    if exit < entry {
-        return true;
-    }
-    exit - entry != f.offset_x(sx) + dy + d * sx
-}
-
-// Group i is of no flow in the plan, or is impossible for its flow.
-fn strange(state: &[u32], deliveries: &[u32], i: usize) -> bool
-    requires { ⌜ StateGroup (now state) (now deliveries) i ⌝ }
-    ensures { λ r. ⌜ r ≡ strange (planIn (now (state .entry))) (groupAt (now (deliveries .entry)) i) ⌝ }
-{
-    let at = cycle::EXIT_SIZE * i;
-    let flow = deliveries[at];
-    if state[state::FLOWS] <= flow {
-        return true;
-    }
-    impossible(
-        state[state::SX],
-        state[state::SY],
-        cycle::flow_at(state, flow),
-        deliveries[at + ENTRY],
-        deliveries[at + EXIT],
-        deliveries[at + DEFLECTIONS],
-    )
-}
-
-// Some group is strange to the plan.
-fn any_strange(state: &[u32], deliveries: &[u32]) -> bool
-    requires { ⌜ StateFacts (now state) ⌝ }
-    ensures { λ r. ⌜ r ≡ any (strange (planIn (now (state .entry)))) (groupsOf (now (deliveries .entry))) ⌝ }
-{
-    let n = deliveries.len() / cycle::EXIT_SIZE;
-    for i in 0..n {
-        if strange(state, deliveries, i) {
-            return true;
-        }
-    }
-    false
-}
+ghost use Rattle.feed.specs.Inner.{Keepable, Feedable, keptWith, fedFirst, callNumber, groupsFed};
 
 // The refusal after the state's own, or 0.
 fn feed_number(state: &[u32], deliveries: &[u32], count: usize, last: u32) -> u32
@@ -86,7 +26,7 @@ fn feed_number(state: &[u32], deliveries: &[u32], count: usize, last: u32) -> u3
     if (recent::MOST_KEPT as u32) < last {
         return 17;
     }
-    if any_strange(state, deliveries) {
+    if delivery::any_strange(state, deliveries) {
         return 12;
     }
     0
@@ -136,9 +76,9 @@ fn kept_with(r: Recent, deliveries: &[u32], i: usize, last: u32) -> Recent
     requires { ⌜ Keepable (now deliveries) i last ⌝ }
     ensures { λ k. ⌜ k ≡ keptWith (now (deliveries .entry)) last i r ⌝ }
 {
-    let at = cycle::EXIT_SIZE * i;
-    let flight = deliveries[at + EXIT] - deliveries[at + ENTRY] + 2;
-    recent::with_delivery(r, last, flight, deliveries[at + DEFLECTIONS])
+    let t = delivery::trip_at(deliveries, i);
+    let flight = t.exit - t.entry + 2;
+    recent::with_delivery(r, last, flight, t.deflections)
 }
 
 // The first n groups, each at its flow's record.

@@ -18,7 +18,7 @@ use Rattle.state.specs.Read.{stateOf}
 use Rattle.state.specs.Forms.{stateNumber}
 use Rattle.state.proofs.Formed.{StateOk, state-fits}
 use Rattle.cycle.specs.Step.{carried, leaving, delivered, deliveries, stepOn}
-use Rattle.feed.proofs.Groups.{Genuine}
+use Rattle.delivery.proofs.Groups.{Genuine}
 use Rattle.run.proofs.Carried.{Carries, carried-routed}
 use Rattle.run.proofs.Keeps.{step-done}
 

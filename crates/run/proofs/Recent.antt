@@ -16,9 +16,9 @@ use Rattle.state.specs.Forms.{stateNumber}
 use Rattle.state.specs.Outcome.{Outcome, outcome}
 use Rattle.cycle.specs.Step.{deliveries, stepOn}
 use Rattle.recent.specs.declared.Recent.{Recent}
-use Rattle.feed.specs.Groups.{groupsOf, strange}
+use Rattle.delivery.specs.Groups.{groupsOf, strange}
 use Rattle.feed.specs.Feed.{fedOne, fedAll, feedOn}
-use Rattle.feed.proofs.Groups.{Genuine, genuine-known, groups-words}
+use Rattle.delivery.proofs.Groups.{Genuine, genuine-known, groups-words}
 use Rattle.feed.proofs.Accepted.{Accepted, feed-done, feed-accepts}
 use Rattle.state.proofs.View.{view-plan}
 use Rattle.run.specs.Recent.{inTurn, EachAccepted, EveryFeeding, EveryStep}

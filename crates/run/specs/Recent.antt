@@ -10,7 +10,7 @@ use Rattle.state.specs.Read.{planIn}
 use Rattle.cycle.specs.Step.{stepOn}
 use Rattle.recent.specs.declared.Recent.{Recent}
 use Rattle.recent.specs.Recent.{mostKept}
-use Rattle.feed.specs.Groups.{groupsOf}
+use Rattle.delivery.specs.Groups.{groupsOf}
 use Rattle.feed.specs.Feed.{feedOn}
 
 -- the records after each delivery was fed by a call of its own, in their order

@@ -9,7 +9,7 @@ use Rattle.laws.specs.Turns.{turns}
 use Rattle.laws.proofs.Turns.{turns-none}
 use Rattle.recent.specs.declared.Recent.{Recent}
 use Rattle.recent.specs.Recent.{noRecord}
-use Rattle.feed.specs.Groups.{groupAt}
+use Rattle.delivery.specs.Groups.{groupAt}
 use Rattle.feed.specs.Feed.{fedOne}
 use Rattle.feed.specs.Inner.{keptWith, fedFirst, Feedable}
 use Rattle.feed.proofs.Fed.{fed-length, fed-next}

@@ -1,10 +1,10 @@
 -- `strange`: no flow of the plan, or impossible for its flow.
 use borrow.Author.Needs.{needs}
 use Rattle.cycle.proofs.Facts.{flow-ok}
-use Rattle.feed.specs.Groups.{groupAt}
-use Rattle.feed.proofs.Groups.{no-flow, of-flow}
-use Rattle.feed.proofs.strange.Statement.{statement}
-use Rattle.feed.proofs.strange.Tie as tie
+use Rattle.delivery.specs.Groups.{groupAt}
+use Rattle.delivery.proofs.Groups.{no-flow, of-flow}
+use Rattle.delivery.proofs.strange.Statement.{statement}
+use Rattle.delivery.proofs.strange.Tie as tie
 
 returns : tie.Need-returns
 returns c =
@@ -13,7 +13,7 @@ returns c =
 
 impossible-requires : tie.Need-impossible-requires
 impossible-requires c κs =
-    let flow = c .before .before .before in
+    let flow = c .before in
     let known = flow .before .before .before in
     let start = known .before .before .before .before .before in
     let h = start .pre .facts .header in
@@ -21,13 +21,13 @@ impossible-requires c κs =
 
 returns-2 : tie.Need-returns-2
 returns-2 c =
-    let flow = c .before .before .before .before in
+    let flow = c .before .before in
     let known = flow .before .before .before in
     let a = known .before .before .before .before .before .args in
-    rw (c .impossible .ensures, flow .flow-at .ensures) (of-flow (a .state .now) (groupAt (a .deliveries .now) (a .i)) (known .if1 .left))
+    rw (c .impossible .ensures, c .before .trip-at .ensures, flow .flow-at .ensures)
+    (of-flow (a .state .now) (groupAt (a .deliveries .now) (a .i)) (known .if1 .left))
 
 pub strange-spec : {M : Type 1} → statement M
 strange-spec =
     tie.close (tie.spec (λ c. search needs) (λ c. search needs) (λ c. search needs) (λ c. search needs) returns (λ c. search needs)
-    (λ c. search needs) (λ c κs. search needs) (λ c. search needs) (λ c. search needs) (λ c. search needs) (λ c. search needs)
-    (λ c. search needs) (λ c. search needs) (λ c. search needs) (λ c. search needs) (λ c. search needs) impossible-requires returns-2)
+    (λ c. search needs) (λ c κs. search needs) (λ c κs. search needs) impossible-requires returns-2)

@@ -4,10 +4,10 @@ use native.Mathlib.Omega.{arith}
 use borrow.Author.Needs.{needs}
 use borrow.Author.Tests.{lt-ltb, le-ltb, lt-leb}
 use Rattle.flight.proofs.Flight.{mostFlight}
-use Rattle.feed.specs.Groups.{impossible}
-use Rattle.feed.proofs.Groups.{flies-most, by-travel}
-use Rattle.feed.proofs.impossible.Statement.{statement}
-use Rattle.feed.proofs.impossible.Tie as tie
+use Rattle.delivery.specs.Groups.{impossible}
+use Rattle.delivery.proofs.Groups.{flies-most, by-travel}
+use Rattle.delivery.proofs.impossible.Statement.{statement}
+use Rattle.delivery.proofs.impossible.Tie as tie
 
 returns : tie.Need-returns
 unfolding impossible

@@ -22,7 +22,7 @@ use Rattle.router.specs.Delivery.{Delivery, deliveryWith, wordsOf}
 use Rattle.router.proofs.Delivery.{words-length}
 use Rattle.state.specs.Read.{sxIn, syIn, countIn, planIn, stateOf}
 use Rattle.state.proofs.View.{view-count}
-use Rattle.feed.specs.Groups.{groupAt, groupsOf, impossible, strange}
+use Rattle.delivery.specs.Groups.{groupAt, groupsOf, impossible, strange}
 
 -- a flow's flight with few deflections is short
 pub flies-most : (sx sy : ℕ) (f : Flow) (D : ℕ) → (FlowOk sx sy f) × ((sx ≤ mostSize) × (sy ≤ mostSize)) → D ≤ ΔY sy f → flightOf sx sy f D ≤ mostFlight

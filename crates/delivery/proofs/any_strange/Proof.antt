@@ -10,10 +10,10 @@ use Rattle.laws.specs.Bounded.{tabulate}
 use Rattle.laws.proofs.Count.{any-more, any-below}
 use Rattle.flow.specs.Limits.{exitSize}
 use Rattle.state.specs.Read.{planIn}
-use Rattle.feed.specs.Groups.{groupAt, groupsOf}
-use Rattle.feed.specs.Groups as Groups
-use Rattle.feed.proofs.any_strange.Statement.{statement}
-use Rattle.feed.proofs.any_strange.Tie as tie
+use Rattle.delivery.specs.Groups.{groupAt, groupsOf}
+use Rattle.delivery.specs.Groups as Groups
+use Rattle.delivery.proofs.any_strange.Statement.{statement}
+use Rattle.delivery.proofs.any_strange.Tie as tie
 
 abbrev Inv-loop : tie.InvT-loop
 Inv-loop state deliveries n i₀ i = (i ≤ n) × (any (Groups.strange (planIn state)) (tabulate i (groupAt deliveries)) ≡ false)

@@ -1,0 +1,2 @@
+-- Laws of deliveries in groups.
+pub mod Groups
