@@ -1,3 +1,6 @@
 -- Walks of code by hand.
-pub mod Walk
+pub mod Loop
+pub mod Local
+pub mod Call
+pub mod Spec
 pub mod Names

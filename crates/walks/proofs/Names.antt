@@ -21,8 +21,11 @@ pub use ghost.Atoms.{Atoms}
 pub use contract.Monad.{Fun}
 pub use contract.Running.{givenOf, tables}
 unfoldable pub use contract.Running.{tablesOf}
-pub use types.Kit.{Given, Item, ‵, raw, _⊛_, ⋆, anyQ, atRet, use1, use2, _$_, _∵_, !, qed, by, move, keep, drop, split, join, rewrite, fsplit, fjoin, feqL, feqI, suffices, frame, done}
-pub use types.Run.{look, look-raw, init, store, store-raw, forget, stop, hop, fld, from, load, lit, unit-lit, of-opd, bin, addr, and-then, no-more, assigns, assigns-last, stays, leaves-loop, returns, returns-within, first, branches, skips, enter, alloc1, alloc0, params1, pass1, pass0, free1, free0, exec}
+pub use types.Kit.{Given, Item, ‵, raw, _⊛_, ⋆, anyQ, atRet, use1, use2, _$_, _∵_, !, qed, by, move, keep, drop, split, join, rewrite, fsplit, fjoin}
+pub use types.Kit.{feqL, feqI, suffices, frame, done}
+pub use types.Run.{look, look-raw, init, store, store-raw, forget, stop, hop, fld, from, load, lit, unit-lit, of-opd, bin, addr, and-then, no-more}
+pub use types.Run.{assigns, assigns-last, stays, leaves-loop, returns, returns-within, first, branches, skips, enter, alloc1, alloc0, params1, pass1}
+pub use types.Run.{pass0, free1, free0, exec}
 pub use types.Part.{whole, sub, look-in, agg}
 pub use sound.WpLaws.{FmC, fmOf}
 pub use denote.RattleType.{RattleType, owns}
@@ -41,6 +44,10 @@ pub use denote.Triple.Statement.{Contract, Triple}
 pub use denote.Triple.Entry.{onEntry}
 pub use denote.Triple.Spec.{tripleOf}
 pub use denote.Triple.Table.{cited}
-pub use denote.Triple.Walked.{says, needs, Stays, stay-slice, stay-none, stay-none-slice, stay-dropped, gave-slice, walkOf, goes-slice, goes-none, goes-none-slice, goes-dropped, goes-gave-slice, Walks, ends-at, walked}
+pub use denote.Triple.Walked.{says, needs, Stays, stay-slice, stay-none, stay-none-slice, stay-dropped, gave-slice, walkOf, goes-slice, goes-none}
+pub use denote.Triple.Walked.{goes-none-slice, goes-dropped, goes-gave-slice, Walks, ends-at, walked}
 pub use denote.Exit.{yes}
-pub use Rattle.walks.proofs.Walk.{holds, fails, down, full, bare, loop-at, for-at, Knows, calls-told, calls-value, word, freeV, loc, ptr-of, count-of, sets, lands-in, early, elem-place, give32, give64, lend, told, walk-spec}
+pub use Rattle.walks.proofs.Loop.{holds, fails, full, bare, for-at}
+pub use Rattle.walks.proofs.Local.{down, freeV, loc, ptr-of, count-of, sets, lands-in, elem-place}
+pub use Rattle.walks.proofs.Call.{Knows, told, calls-told, calls-value, word, give32, give64, lend}
+pub use Rattle.walks.proofs.Spec.{walk-spec}
