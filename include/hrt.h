@@ -75,9 +75,10 @@ struct hrt_recent {
 
 /* Feeds deliveries, five words each as hrt_step delivers them, to the records of their flows: record n is flow n's, and it then
  * holds the flow's last deliveries, at most `last` of them, 1 to HRT_MOST_RECENT. A record that says it holds more than `last`
- * is taken as empty. Words behind the last whole delivery aren't read, and records without a delivery stay. Fewer records than
- * flows are refused with 16, another `last` with 17, and a delivery with 12 if the plan has no such flow, or that flow can't have
- * such a flight and deflections. Answers 0. */
+ * is taken as empty. Lend the five words of each exit that hrt_step answered, and not the whole delivery memory: older deliveries
+ * behind them would be kept again. Words behind the last whole delivery aren't read, and records without a delivery stay. Fewer
+ * records than flows are refused with 16, another `last` with 17, and a delivery with 12 if the plan has no such flow, or that
+ * flow can't have such a flight and deflections. Answers 0. */
 uint64_t hrt_recent(const uint32_t *state, size_t state_words, const uint32_t *deliveries, size_t delivery_words,
                     struct hrt_recent *records, size_t record_count, uint32_t last);
 

@@ -1,12 +1,13 @@
--- What a delivery that isn't strange has, and what feeds on it asks. Rests on specs/Groups and the laws of flights.
-use mathlib.Core.Bool.{Bool, true, false, not, _&&_, _||_}
-use mathlib.Core.List.{List, [], _∷_, _++_}
+-- Laws of groups: what a delivery has that isn't strange to the plan, and the groups of deliveries' words. Rests on specs/Groups and the
+-- laws of flights.
+use mathlib.Core.Bool.{true, false, not}
+use mathlib.Core.List.{List, [], _∷_}
 use mathlib.Core.Path.{_≡_, refl, sym, _∙_}
 use Prim.Native.Nat.{ℕ, zero, suc, _+_, _-_, _*_, _/_, _≤_, _<_}
 use native.Mathlib.Decide.{ℕ-discrete}
 use native.Mathlib.Omega.{arith}
 use borrow.Author.Tests.{le-ltb, lt-leb, le-leb, eq-eqb, ne-eqb, ltb-false, leb-false, leb-true, eqb-true, not-false}
-use lib.Dec.{eqb, ltb, leb}
+use lib.Dec.{eqb}
 use lib.ListN.{length, getD}
 use lib.Seq.{getD-append-add}
 use Rattle.laws.proofs.Bounded.{is-tabulate}

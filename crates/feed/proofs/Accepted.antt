@@ -91,10 +91,12 @@ module _ (words deliveries : List ℕ) (last : ℕ) where
     unfolding groupsOf planIn stateOf
     keepable i h =
         let d : Delivery = groupAt deliveries i in
-        let real : Genuine (planIn words) d = known-genuine (planIn words) d (none-below (strange (planIn words)) (groupAt deliveries) _ (goes .known) i h) in
+        let real : Genuine (planIn words) d =
+        known-genuine (planIn words) d (none-below (strange (planIn words)) (groupAt deliveries) _ (goes .known) i h) in
         let below : d .flow < countIn words = rw (view-count words) at (real .flow-below) in
         let fits = formed .header in
-        let short = flies-most (sxIn words) (syIn words) _ (d .D) (flow-ok words formed (d .flow) below, (fits .sx-ok .most, fits .sy-ok .most)) (real .few) in (
+        let short = flies-most (sxIn words) (syIn words) _ (d .D)
+        (flow-ok words formed (d .flow) below, (fits .sx-ok .most, fits .sy-ok .most)) (real .few) in (
           record { has = omega arith; ordered = omega (arith, real .time); short = omega (arith, real .time, short); some = goes .some; few = goes .few },
           omega (arith, real .flow-below, goes .enough),
         )

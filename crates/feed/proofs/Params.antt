@@ -37,8 +37,13 @@ params = feed.ended .signature .params
 
 -- the records are given up with what the callee leaves; nothing is said of the others
 abbrev pub stayed : Stays params (feed.ended .kept)
-stayed =
-    (stay-dropped stateWords yes, (stay-dropped deliveryWords yes, (gave-slice (2 ∷ []) tt (plain (λ _. T.the-row)), (stay-dropped (plain (λ _. u32)) yes, tt))))
+stayed = (
+  stay-dropped stateWords yes,
+  (
+    stay-dropped deliveryWords yes,
+    (gave-slice (2 ∷ []) tt (plain (λ _. T.the-row)), (stay-dropped (plain (λ _. u32)) yes, tt)),
+  ),
+)
 
 abbrev pub goes : {M : Type 1} (𝓤 : URA M) (H : Heap 𝓤) (A : Atoms 𝓤) (W : Given 𝓤 H A) → AllGo 𝓤 H A W 3 params (feed.ended .kept) stayed
 goes 𝓤 H A W = (

@@ -1,10 +1,10 @@
 -- Laws of kept entries: laid out one by one, the last of them, and the largest. Rests on specs/Recent.
 use mathlib.Core.List.{List, [], _∷_, _++_, append-assoc}
-use mathlib.Core.Path.{_≡_, refl, sym, _∙_}
+use mathlib.Core.Path.{_≡_, refl, sym}
 use Prim.Native.Nat.{ℕ, zero, suc, _+_, _-_, _≤_, _<_, max}
 use native.Mathlib.Omega.{arith}
 use native.Mathlib.Numerals.{add-one}
-use lib.ListN.{length, getD, set, take, drop, replicate, length-append, length-take, length-drop}
+use lib.ListN.{length, getD, set, take, drop, replicate, length-append, length-drop}
 use lib.Seq.{length-take-le, take-suc, take-add, drop-append-le, drop-at, set-at, getD-drop}
 use Rattle.recent.specs.Recent.{mostKept, largest, laidOut, oneMore}
 

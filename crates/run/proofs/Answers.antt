@@ -37,7 +37,7 @@ use Rattle.state.specs.Reset.{resetOn}
 use Rattle.state.proofs.Read.{clock-read, tally-at-read}
 use Rattle.reset.proofs.Leaves.{reset-done}
 use Rattle.writing.proofs.Back.{file-back}
-use Rattle.run.specs.List.{Lent, offer, reset, Item, onMemory, memoryAfter, role, roleIn, IsList, fedAs, fed, due, Follows}
+use Rattle.run.specs.List.{Whole, offer, reset, Item, onMemory, memoryAfter, role, roleIn, IsList, fedAs, fed, due, Follows}
 use Rattle.run.specs.View.{bookState}
 use Rattle.run.specs.Answers.{bookAfter, HasRun, EnteredBy, acceptedLine, EveryAnswer}
 use Rattle.run.proofs.View.{tally-at}
@@ -152,7 +152,7 @@ module _ (file words : List ℕ) (bytes : Bytes file) (done : (resetOn file word
     was-fed e =
         let does-it = does p words b kept i (λ g e. absurd (offer-reset f g e)) in
         let due-is : (due p b words i (roleIn p i)) .answer ≡ Done 0 =
-        sym (ap (λ (o : Outcome Answer Lent). o .answer) does-it) ∙ ap (λ m. (onMemory m i) .answer) (sym (follows .state)) ∙ e in
+        sym (ap (λ (o : Outcome Answer Whole). o .answer) does-it) ∙ ap (λ m. (onMemory m i) .answer) (sym (follows .state)) ∙ e in
         elim (test (ltb n (planSize p))) [
           | inl few ↦ absurd (refused-done _ _ _ (rw few at due-is))
           | inr all ↦ (rw all, rw all at due-is)

@@ -21,15 +21,14 @@ use Rattle.plan.specs.declared.Answer.the-variants.{Done}
 use Rattle.plan.specs.Written.{planBytes}
 use Rattle.state.specs.State.{tallyAt}
 use Rattle.state.specs.Words.{stateWords}
-use Rattle.state.specs.Outcome.{Outcome, outcome, unless, over}
-use Rattle.state.specs.Outcome as Outcome
+use Rattle.state.specs.Outcome.{Outcome, outcome, Lent, lent, unless, over}
 use Rattle.state.specs.Writing.{bytesOn, writeOn}
 use Rattle.cycle.specs.Offer.{offerState, offerOn}
 use Rattle.cycle.specs.Step.{stepState, deliveries, stepOn}
 use Rattle.recent.specs.declared.Recent.{Recent}
 use Rattle.feed.specs.Feed.{plannedOn, feedOn}
 use Rattle.run.specs.View.{bookState}
-use Rattle.run.specs.List.{justWords, justRecords, lent, offer, step, write, recent, onWords}
+use Rattle.run.specs.List.{justWords, justRecords, whole, offer, step, write, recent, onWords}
 use Rattle.run.proofs.View.{tally-at}
 use Rattle.run.proofs.Step.{step-follows}
 use Rattle.run.proofs.Delivery.{deliveries-follow}
@@ -57,39 +56,39 @@ module _ (p : Plan) (b : Book) (k : Kept p b) (tail : List ℕ) where
   -- and by that number do the same
   offer-by : (f n : ℕ) → refusal p b (Feed.offer f) ≡ n → let now : Fed = judged p b (Feed.offer f) n in
       let o : Outcome Answer (List ℕ) = unless n w (outcome (Done 0) (over (stateWords (offerState (bookState p b) f)) w)) in
-      outcome (o .answer) (lent (o .memory) (justWords []))
-      ≡ outcome (now .reply) (lent (image p (now .book) tail) (justWords (over (wordsOf (now .delivered)) [])))
+      outcome (o .answer) (whole (o .memory) (justWords []))
+      ≡ outcome (now .reply) (whole (image p (now .book) tail) (justWords (over (wordsOf (now .delivered)) [])))
   unfolding unless
   offer-by f zero e = rw (offer-follows p b f (below f e), image-again p b tail)
   offer-by f (suc n) e = refl
 
   step-by : (delivery : List ℕ) (n : ℕ) → let s = bookState p b in let now : Fed = judged p b (Feed.step (length delivery)) n in
-      let o : Outcome Answer Outcome.Lent =
-      unless n (Outcome.lent w delivery)
-      (outcome (Done (length (deliveries s))) (Outcome.lent (over (stateWords (stepState s)) w) (over (wordsOf (deliveries s)) delivery))) in
-      outcome (o .answer) (lent (o .memory .state) (justWords (o .memory .other)))
-      ≡ outcome (now .reply) (lent (image p (now .book) tail) (justWords (over (wordsOf (now .delivered)) delivery)))
+      let o : Outcome Answer Lent =
+      unless n (lent w delivery)
+      (outcome (Done (length (deliveries s))) (lent (over (stateWords (stepState s)) w) (over (wordsOf (deliveries s)) delivery))) in
+      outcome (o .answer) (whole (o .memory .state) (justWords (o .memory .other)))
+      ≡ outcome (now .reply) (whole (image p (now .book) tail) (justWords (over (wordsOf (now .delivered)) delivery)))
   unfolding unless
   step-by delivery zero = rw (step-follows p b k, deliveries-follow p b k, image-again p b tail)
   step-by delivery (suc n) = refl
 
   pub offer-on : (f : ℕ) → let now : Fed = feed p b (Feed.offer f) in
-      onWords (offer f) w ≡ outcome (now .reply) (lent (image p (now .book) tail) (justWords (over (wordsOf (now .delivered)) [])))
+      onWords (offer f) w ≡ outcome (now .reply) (whole (image p (now .book) tail) (justWords (over (wordsOf (now .delivered)) [])))
   unfolding offerOn unless feed
   offer-on f = rw (number p b tail k, state-is p b tail, offer-number f) (offer-by f (refusal p b (Feed.offer f)) refl)
 
   pub step-on : (delivery : List ℕ) → let now : Fed = feed p b (Feed.step (length delivery)) in
-      onWords (step delivery) w ≡ outcome (now .reply) (lent (image p (now .book) tail) (justWords (over (wordsOf (now .delivered)) delivery)))
+      onWords (step delivery) w ≡ outcome (now .reply) (whole (image p (now .book) tail) (justWords (over (wordsOf (now .delivered)) delivery)))
   unfolding stepOn unless feed
   step-on delivery =
       rw (number p b tail k, state-is p b tail, step-number (length delivery)) (step-by delivery (refusal p b (Feed.step (length delivery))))
 
   pub write-on : (notes target : List ℕ) → let o : Outcome Answer (List ℕ) = bytesOn (planBytes notes p) target in
-      onWords (write notes target) w ≡ outcome (o .answer) (lent w (justWords (o .memory)))
+      onWords (write notes target) w ≡ outcome (o .answer) (whole w (justWords (o .memory)))
   unfolding writeOn unless
   write-on notes target = rw (number p b tail k, plan-is p b tail)
 
   pub recent-on : (deliveries : List ℕ) (last : ℕ) (records : List Recent) → let o : Outcome Answer (List Recent) = plannedOn p deliveries last records in
-      onWords (recent deliveries last records) w ≡ outcome (o .answer) (lent w (justRecords (o .memory)))
+      onWords (recent deliveries last records) w ≡ outcome (o .answer) (whole w (justRecords (o .memory)))
   unfolding feedOn unless
   recent-on deliveries last records = rw (number p b tail k, plan-is p b tail)

@@ -2,7 +2,7 @@
 -- are those deliveries' words (01, One cycle). Rests on Carried and Keeps.
 use mathlib.Core.List.{List, List·Memᴰ as Mem, List·Memᴰ·head as here, List·Memᴰ·tail as there}
 use mathlib.Core.Path.{_≡_}
-use Prim.Native.Nat.{ℕ, _+_, _*_, _≤_, _<_}
+use Prim.Native.Nat.{ℕ, _*_, _<_}
 use lib.ListN.{length, take}
 use lib.Seq.{take-at}
 use Rattle.laws.proofs.Count.{mem-join}

@@ -36,7 +36,7 @@ use Rattle.reset.proofs.Leaves.{reset-done, leaves}
 use Rattle.cycle.specs.Offer.{offerOn}
 use Rattle.cycle.specs.Step.{stepOn}
 use Rattle.feed.specs.Feed.{feedOn}
-use Rattle.run.specs.List.{Beside, justWords, Lent, lent, Asked, offer, step, write, recent, reset, onWords, Item, onMemory, memoryAfter}
+use Rattle.run.specs.List.{Beside, justWords, Whole, whole, Asked, offer, step, write, recent, reset, onWords, Item, onMemory, memoryAfter}
 use Rattle.run.specs.List.{Role, feeds, between, resets, role, tooLittle, roleIn}
 use Rattle.run.specs.List.{IsList, fedAs, fed, beside, outcomes, bookMemory, due, expected}
 use Rattle.run.specs.List.{Follows, EveryList}
@@ -80,7 +80,7 @@ module _ (p : Plan) (words : List ℕ) where
 
   -- a call lent the first words of a state memory, which leaves them as they were
   unchanged : (memory : List ℕ) (i : Item) (a : Answer) (other : Beside) → let part = take (i .lentWords) memory in
-      onWords (i .asked) part ≡ outcome a (lent part other) → onMemory memory i ≡ outcome a (lent memory other)
+      onWords (i .asked) part ≡ outcome a (whole part other) → onMemory memory i ≡ outcome a (whole memory other)
   unchanged memory i a other e = rw (e, take-append-drop (i .lentWords) memory)
 
   module _ (b : Book) (k : Kept p b) where
@@ -91,12 +91,12 @@ module _ (p : Plan) (words : List ℕ) where
     abbrev pub Does : Item → Role → Type 0
     Does i r =
         let o : Outcome Answer Beside = due p b words i r in
-        onMemory m i ≡ outcome (o .answer) (lent (image p (runFrom p b (fedAs r) .book) tail) (o .memory))
+        onMemory m i ≡ outcome (o .answer) (whole (image p (runFrom p b (fedAs r) .book) tail) (o .memory))
 
     -- a call lent the whole state, and words behind it or not
     enough : (b′ : Book) (i : Item) (a : Answer) (other : Beside) → planSize p ≤ i .lentWords
-        → ((tail : List ℕ) → onWords (i .asked) (image p b tail) ≡ outcome a (lent (image p b′ tail) other))
-        → onMemory m i ≡ outcome a (lent (image p b′ tail) other)
+        → ((tail : List ℕ) → onWords (i .asked) (image p b tail) ≡ outcome a (whole (image p b′ tail) other))
+        → onMemory m i ≡ outcome a (whole (image p b′ tail) other)
     enough b′ i a other h does =
         let n = i .lentWords - planSize p in
         rw (
@@ -118,7 +118,8 @@ module _ (p : Plan) (words : List ℕ) where
       does-reset : (file : List ℕ) → May (reset file) → Does (item (reset file)) resets
       does-reset file may =
           let part = take n m in
-          unchanged m (item (reset file)) _ _ (ap (λ w. outcome ((resetOn file part) .answer) (lent w (justWords []))) (reset-refused file part (may file refl)))
+          unchanged m (item (reset file)) _ _
+          (ap (λ w. outcome ((resetOn file part) .answer) (whole w (justWords []))) (reset-refused file part (may file refl)))
 
       does-enough : (c : Asked) → planSize p ≤ n → May c → Does (item c) (role c)
       does-enough (offer f) h may = enough (feed p b (Feed.offer f) .book) (item (offer f)) _ _ h (λ t. offer-on p b k t f)
@@ -180,8 +181,8 @@ module _ (p : Plan) (words : List ℕ) where
   follow (i ∷ is) b k l =
       let r = roleIn p i in
       let d = does b k i (l .0) in
-      let later = follow is (runFrom p b (fedAs r) .book) (keeps b k r) (subst (λ (o : Outcome Answer Lent). IsList (o .memory .state) is) d (l .1)) in
-      subst (λ (o : Outcome Answer Lent). Right (beside o ∷ outcomes (o .memory .state) is) (expected p b words (i ∷ is))
+      let later = follow is (runFrom p b (fedAs r) .book) (keeps b k r) (subst (λ (o : Outcome Answer Whole). IsList (o .memory .state) is) d (l .1)) in
+      subst (λ (o : Outcome Answer Whole). Right (beside o ∷ outcomes (o .memory .state) is) (expected p b words (i ∷ is))
       (map (λ call. beside o) (fedAs r) ++ fedOutcomes p (o .memory .state) is) (memoryAfter (o .memory .state) is) (runFrom p b (fed p (i ∷ is))))
       (sym d) (then b i r (fed p is) later)
 

@@ -2,7 +2,7 @@
 use mathlib.Core.Bool.{false, false≢true}
 use mathlib.Core.List.{List, [], _∷_}
 use mathlib.Core.Path.{_≡_, refl, sym, ap, subst, _∙_}
-use Prim.Native.Nat.{ℕ, _≤_}
+use Prim.Native.Nat.{ℕ}
 use lib.ListN.{length, length-set}
 use Rattle.laws.specs.Count.{any}
 use Rattle.laws.proofs.Cases.{never, or-false}
@@ -14,7 +14,7 @@ use Rattle.router.specs.Delivery.{Delivery, wordsOf}
 use Rattle.state.specs.Read.{planIn, stateOf}
 use Rattle.state.specs.Forms.{stateNumber}
 use Rattle.state.specs.Outcome.{Outcome, outcome}
-use Rattle.cycle.specs.Step.{deliveries, stepOn}
+use Rattle.cycle.specs.Step.{deliveries}
 use Rattle.recent.specs.declared.Recent.{Recent}
 use Rattle.delivery.specs.Groups.{groupsOf, strange}
 use Rattle.feed.specs.Feed.{fedOne, fedAll, feedOn}

@@ -42,12 +42,12 @@ abbrev pub justRecords : List Recent → Beside
 justRecords records = record { words = []; records = records }
 
 -- all memory lent to a call
-pub record Lent : Type 0 where
+pub record Whole : Type 0 where
   pub state : List ℕ
   pub other : Beside
 
-abbrev pub lent : (state : List ℕ) → (other : Beside) → Lent
-lent state other = record { state = state; other = other }
+abbrev pub whole : (state : List ℕ) → (other : Beside) → Whole
+whole state other = record { state = state; other = other }
 
 -- a call, with what is lent to it beside the state memory
 pub data Asked : Type 0 where
@@ -58,14 +58,14 @@ pub data Asked : Type 0 where
   reset : (file : List ℕ) → Asked
 
 -- what a call does to the words lent to it, by the definitions to which the contracts of the code set answer and memory equal
-abbrev pub onWords : Asked → (words : List ℕ) → Outcome Answer Lent
-onWords (offer flow) words = outcome ((offerOn words flow) .answer) (lent ((offerOn words flow) .memory) (justWords []))
+abbrev pub onWords : Asked → (words : List ℕ) → Outcome Answer Whole
+onWords (offer flow) words = outcome ((offerOn words flow) .answer) (whole ((offerOn words flow) .memory) (justWords []))
 onWords (step delivery) words =
-    outcome ((stepOn words delivery) .answer) (lent ((stepOn words delivery) .memory .state) (justWords ((stepOn words delivery) .memory .other)))
-onWords (write notes target) words = outcome ((writeOn words notes target) .answer) (lent words (justWords ((writeOn words notes target) .memory)))
+    outcome ((stepOn words delivery) .answer) (whole ((stepOn words delivery) .memory .state) (justWords ((stepOn words delivery) .memory .other)))
+onWords (write notes target) words = outcome ((writeOn words notes target) .answer) (whole words (justWords ((writeOn words notes target) .memory)))
 onWords (recent deliveries last records) words =
-    outcome ((feedOn words deliveries last records) .answer) (lent words (justRecords ((feedOn words deliveries last records) .memory)))
-onWords (reset file) words = outcome ((resetOn file words) .answer) (lent ((resetOn file words) .memory) (justWords []))
+    outcome ((feedOn words deliveries last records) .answer) (whole words (justRecords ((feedOn words deliveries last records) .memory)))
+onWords (reset file) words = outcome ((resetOn file words) .answer) (whole ((resetOn file words) .memory) (justWords []))
 
 -- an item of a list: a call, and how many words of the state memory it is lent
 pub record Item : Type 0 where
@@ -73,10 +73,10 @@ pub record Item : Type 0 where
   pub lentWords : ℕ
 
 -- it is lent the first words of the state memory, or all where there are no more; the others stay
-abbrev pub onMemory : (memory : List ℕ) → Item → Outcome Answer Lent
+abbrev pub onMemory : (memory : List ℕ) → Item → Outcome Answer Whole
 onMemory memory i =
-    let o : Outcome Answer Lent = onWords (i .asked) (take (i .lentWords) memory) in
-    outcome (o .answer) (lent (o .memory .state ++ drop (i .lentWords) memory) (o .memory .other))
+    let o : Outcome Answer Whole = onWords (i .asked) (take (i .lentWords) memory) in
+    outcome (o .answer) (whole (o .memory .state ++ drop (i .lentWords) memory) (o .memory .other))
 
 -- the state memory after a list: each call is lent it as the last one left it
 abbrev pub memoryAfter : (memory : List ℕ) → List Item → List ℕ
@@ -130,7 +130,7 @@ fed p [] = []
 fed p (i ∷ is) = fedAs (roleIn p i) ++ fed p is
 
 -- each call's answer, and its other memory afterwards
-abbrev pub beside : Outcome Answer Lent → Outcome Answer Beside
+abbrev pub beside : Outcome Answer Whole → Outcome Answer Beside
 beside o = outcome (o .answer) (o .memory .other)
 
 abbrev pub outcomes : (memory : List ℕ) → List Item → List (Outcome Answer Beside)

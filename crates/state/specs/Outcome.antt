@@ -13,7 +13,7 @@ pub record Outcome (A M : Type 0) : Type 0 where
 abbrev pub outcome : {A M : Type 0} → A → M → Outcome A M
 outcome answer memory = record { answer = answer; memory = memory }
 
--- state memory, and what is lent beside it: a step's delivery memory, or the target of writing
+-- what a step is lent: state memory, and delivery memory beside it
 pub record Lent : Type 0 where
   pub state : List ℕ
   pub other : List ℕ

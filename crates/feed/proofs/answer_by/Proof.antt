@@ -1,6 +1,4 @@
 -- `answer_by`: the definition's own test.
-use mathlib.Core.Path.{sym}
-use borrow.Author.Needs.{needs}
 use Rattle.plan.proofs.Refusals.{answer-refused}
 use Rattle.feed.proofs.answer_by.Statement.{statement}
 use Rattle.feed.proofs.answer_by.Tie as tie

@@ -1,5 +1,5 @@
 -- `call_number`: the state's own number comes first.
-use mathlib.Core.Path.{_≡_, sym, _∙_}
+use mathlib.Core.Path.{sym, _∙_}
 use borrow.Author.Needs.{needs}
 use Rattle.state.proofs.Forms.{state-facts}
 use Rattle.feed.proofs.Accepted.{first-refused, first-passes}

@@ -3,22 +3,18 @@ use base.Logic.{via, fst∗, emp}
 use denote.Enum.Laws as EL
 use denote.Plain.{nothing-lawful}
 use Rattle.walks.proofs.Names.{_≡_, refl, ap, _∙_, ℕ, _<_, _^_, [], _∷_, List, length, URA, named, w32, w64, Val, vint, SProp, ent, id⊢, Lft, Share}
-use Rattle.walks.proofs.Names.{ftrue, flft, Memory, Routine, Heap, WpFn, Tables, Atoms, Fun, givenOf, tables, tablesOf, FmC, fmOf}
-use Rattle.walks.proofs.Names.{Given, Item, ‵, _⊛_, ⋆, _$_, _∵_, !, qed, by, move, keep, drop, split, join, fsplit, fjoin, feqL, suffices, frame, done}
-use Rattle.walks.proofs.Names.{init, stop, hop, fld, from, addr, agg, of-opd, and-then, no-more, look, returns, enter, alloc1, alloc0, params1, pass1}
-use Rattle.walks.proofs.Names.{pass0, free0, free1, whole, sub, look-in, owns, RattleType}
-use Rattle.walks.proofs.Names.{uint-vals, uint-tells, u32, RefT, now, sliceVal, MutSlice, ShrSlice, Room, finally, slice-vals, mut-slice-tells}
-use Rattle.walks.proofs.Names.{shr-slice-tells, nothing, plain, shrSliceOf, onEntry, cited, says, Stays, stay-dropped, gave-slice, walkOf}
-use Rattle.walks.proofs.Names.{goes-dropped, goes-gave-slice, ends-at, walked, yes}
-use Rattle.walks.proofs.Names.{down, Knows, calls-told, calls-value, word, freeV, loc, count-of, sets, lands-in, give32, give64, lend, told, walk-spec}
-use Rattle.plan.specs.declared.Answer.{Answer}
+use Rattle.walks.proofs.Names.{ftrue, flft, Memory, Routine, Heap, WpFn, Tables, Atoms, Fun, givenOf, tables, tablesOf, FmC, fmOf, Given, Item, ‵}
+use Rattle.walks.proofs.Names.{_⊛_, ⋆, _$_, _∵_, !, qed, by, move, keep, drop, split, join, fsplit, fjoin, feqL, suffices, frame, done, init, stop}
+use Rattle.walks.proofs.Names.{hop, fld, from, addr, agg, of-opd, and-then, no-more, look, returns, enter, alloc1, alloc0, params1, pass1, pass0}
+use Rattle.walks.proofs.Names.{free0, whole, sub, look-in, owns, u32, RefT, now, MutSlice, ShrSlice, Room, finally, nothing, onEntry, cited, says}
+use Rattle.walks.proofs.Names.{walkOf, ends-at, walked, down, Knows, calls-told, calls-value, word, freeV, loc, count-of, sets, lands-in, give32}
+use Rattle.walks.proofs.Names.{give64, lend, told, walk-spec}
 use Rattle.plan.specs.Refusals.{answerBy}
 use Rattle.plan.proofs.Answer as S
 use Rattle.plan.proofs.Answer.Laws as S′
 use Rattle.recent.specs.declared.Recent.{Recent}
 use Rattle.recent.proofs.Recent as T
 use Rattle.state.specs.Outcome.{outcome}
-use Rattle.feed.specs.Feed.{feedOn}
 use Rattle.feed.specs.Inner.{fedFirst, callNumber, groupsFed}
 use Rattle.feed.proofs.Accepted.{feedable, fed-by-number}
 use Rattle.feed.proofs.call_number as call-number

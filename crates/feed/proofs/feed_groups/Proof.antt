@@ -2,20 +2,19 @@
 use native.Mathlib.Omega.{arith}
 use denote.Laws.{Lawful}
 use denote.Struct.Laws as LL
-use Rattle.walks.proofs.Names.{_≡_, refl, sym, ap, subst, _∙_, ℕ, _<_, _^_, _*_, _+_, lt-irrefl, Bool, [], _∷_, List, ltb, lt→ltb, ltb→lt, lit<}
-use Rattle.walks.proofs.Names.{length, set, getD, URA, fullShare, Ty, loop, named, mut, imm, w32, w64, tyInt, tyBool, tyPtr, tyRef, tyUnit, Val}
-use Rattle.walks.proofs.Names.{vunit, vbool, vint, SProp, ent, id⊢, Lft, Share, GName, Fml, ftrue, fat, froom, fdies, flft, fobs, fauth, fbor, fobor}
-use Rattle.walks.proofs.Names.{Memory, Routine, Heap, Out, Env, afterSeq, afterBlock, afterTurn, Wp, atReturn, WpFn, Tables, Atoms, Fun, givenOf}
-use Rattle.walks.proofs.Names.{tables, tablesOf, FmC, fmOf, Given, Item, ‵, _⊛_, ⋆, anyQ, atRet, _$_, _∵_, !, qed, by, move, keep, drop, split, join}
-use Rattle.walks.proofs.Names.{rewrite, fsplit, fjoin, feqI, suffices, frame, done, look, look-raw, init, store, store-raw, forget, stop, hop, from}
-use Rattle.walks.proofs.Names.{load, lit, unit-lit, of-opd, bin, and-then, no-more, assigns, assigns-last, stays, leaves-loop, returns, enter, exec}
-use Rattle.walks.proofs.Names.{alloc1, alloc0, params1, pass1, pass0, free1, free0, owns, pointee}
-use Rattle.walks.proofs.Names.{pureI, Is, shows, uint-vals, uint-tells, u32, usize, RefT, now, sliceTy, sliceVal, MutSlice, ShrSlice, Room, heres}
-use Rattle.walks.proofs.Names.{codedHoleys, at-slice, slice-vals, mut-slice-tells, shr-slice-tells, Held, row, elem-out, elem-put, opens-slice}
-use Rattle.walks.proofs.Names.{closes-slice, nothing, plain, shrSliceOf, onEntry, cited, says, needs, Stays, stay-slice, stay-dropped, walkOf}
-use Rattle.walks.proofs.Names.{goes-slice, goes-dropped, ends-at, walked, yes}
-use Rattle.walks.proofs.Names.{holds, fails, down, full, bare, for-at, Knows, calls-value, word, freeV, loc, ptr-of, sets, lands-in, elem-place}
-use Rattle.walks.proofs.Names.{give32, give64, lend, told, walk-spec}
+use Rattle.walks.proofs.Names.{_≡_, refl, sym, ap, subst, ℕ, _<_, _^_, _*_, _+_, lt-irrefl, Bool, [], _∷_, List, ltb, lt→ltb, ltb→lt, lit<, length}
+use Rattle.walks.proofs.Names.{getD, URA, fullShare, Ty, loop, named, mut, imm, w32, w64, tyInt, tyBool, tyPtr, tyRef, tyUnit, Val, vunit, vbool}
+use Rattle.walks.proofs.Names.{vint, SProp, ent, id⊢, Lft, Share, GName, Fml, ftrue, fat, flft, fobs, fauth, fbor, fobor, Memory, Routine, Heap, Out}
+use Rattle.walks.proofs.Names.{Env, afterSeq, afterBlock, afterTurn, Wp, atReturn, WpFn, Tables, Atoms, Fun, givenOf, tables, tablesOf, FmC, fmOf}
+use Rattle.walks.proofs.Names.{Given, Item, ‵, _⊛_, ⋆, anyQ, atRet, _$_, _∵_, !, qed, by, move, keep, drop, split, join, rewrite, fsplit, fjoin, feqI}
+use Rattle.walks.proofs.Names.{suffices, frame, done, look, look-raw, init, store, store-raw, forget, stop, hop, from, load, lit, unit-lit, of-opd}
+use Rattle.walks.proofs.Names.{bin, and-then, no-more, assigns, assigns-last, stays, leaves-loop, returns, enter, exec, alloc1, alloc0, params1}
+use Rattle.walks.proofs.Names.{pass1, pass0, free1, free0, owns, pointee, pureI, Is, shows, uint-vals, uint-tells, u32, usize, RefT, now, sliceTy}
+use Rattle.walks.proofs.Names.{sliceVal, MutSlice, ShrSlice, Room, heres, codedHoleys, at-slice, slice-vals, mut-slice-tells, shr-slice-tells, Held}
+use Rattle.walks.proofs.Names.{row, elem-out, elem-put, opens-slice, closes-slice, nothing, plain, shrSliceOf, onEntry, cited, says, needs, Stays}
+use Rattle.walks.proofs.Names.{stay-slice, stay-dropped, walkOf, goes-slice, goes-dropped, ends-at, walked, yes, holds, fails, down, full, bare}
+use Rattle.walks.proofs.Names.{for-at, Knows, calls-value, word, freeV, loc, ptr-of, sets, lands-in, elem-place, give32, give64, lend, told}
+use Rattle.walks.proofs.Names.{walk-spec}
 use Rattle.laws.specs.Turns.{turns}
 use Rattle.laws.proofs.Turns.{turns-none}
 use Rattle.recent.specs.declared.Recent.{Recent}

@@ -1,5 +1,4 @@
 -- `feed_number`: the definition's own tests.
-use mathlib.Core.Path.{_≡_, refl, sym, _∙_}
 use borrow.Author.Needs.{needs}
 use borrow.Author.Tests.{lt-ltb, le-ltb, le-leb, lt-leb}
 use Rattle.state.proofs.View.{view-count}
@@ -23,13 +22,27 @@ returns-4 : tie.Need-returns-4
 unfolding feedNumber
 returns-4 c =
     let limit = c .before .before in
-    rw (view-count, le-ltb _ _ (limit .before .before .if1 .left), le-leb _ _ (limit .before .if2 .left), le-leb _ _ (limit .if3 .left), ← (c .before .any-strange .ensures), c .if4 .taken)
+    rw (
+      view-count,
+      le-ltb _ _ (limit .before .before .if1 .left),
+      le-leb _ _ (limit .before .if2 .left),
+      le-leb _ _ (limit .if3 .left),
+      ← (c .before .any-strange .ensures),
+      c .if4 .taken,
+    )
 
 returns-5 : tie.Need-returns-5
 unfolding feedNumber
 returns-5 c =
     let limit = c .before .before in
-    rw (view-count, le-ltb _ _ (limit .before .before .if1 .left), le-leb _ _ (limit .before .if2 .left), le-leb _ _ (limit .if3 .left), ← (c .before .any-strange .ensures), c .if4 .left)
+    rw (
+      view-count,
+      le-ltb _ _ (limit .before .before .if1 .left),
+      le-leb _ _ (limit .before .if2 .left),
+      le-leb _ _ (limit .if3 .left),
+      ← (c .before .any-strange .ensures),
+      c .if4 .left,
+    )
 
 pub feed-number-spec : {M : Type 1} → statement M
 feed-number-spec =

@@ -2,14 +2,11 @@
 use base.Logic.{via, fst∗, emp}
 use denote.Enum.Laws as EL
 use Rattle.walks.proofs.Names.{_≡_, refl, ap, ℕ, _<_, _^_, [], _∷_, List, length, URA, named, w32, w64, Val, vint, SProp, ent, id⊢, Lft, Share, ftrue}
-use Rattle.walks.proofs.Names.{flft, Memory, Routine, Heap, WpFn, Tables, Atoms, Fun, givenOf, tables, tablesOf}
-use Rattle.walks.proofs.Names.{Given, Item, ‵, _⊛_, ⋆, _$_, _∵_, !, qed, by, move, keep, drop, fsplit, fjoin, feqL, suffices, frame, done, init, stop, hop}
-use Rattle.walks.proofs.Names.{fld, from, addr, agg, and-then, no-more, look, returns, enter, alloc1, alloc0, params1, pass1, pass0, free0, free1}
-use Rattle.walks.proofs.Names.{whole, sub, look-in, fmOf, owns, RattleType}
-use Rattle.walks.proofs.Names.{uint-vals, uint-tells, uint-lawful, u32, RefT, now, sliceVal, MutSlice, ShrSlice, Room, finally, slice-vals}
-use Rattle.walks.proofs.Names.{mut-slice-tells, shr-slice-tells, nothing, plain, shrSliceOf, onEntry, cited, says, Stays, stay-dropped, gave-slice}
-use Rattle.walks.proofs.Names.{walkOf, goes-dropped, goes-gave-slice, ends-at, walked, yes}
-use Rattle.walks.proofs.Names.{down, Knows, calls-told, calls-value, word, freeV, loc, count-of, sets, lands-in, walk-spec}
+use Rattle.walks.proofs.Names.{flft, Memory, Routine, Heap, WpFn, Tables, Atoms, Fun, givenOf, tables, tablesOf, Given, Item, ‵, _⊛_, ⋆, _$_, _∵_, ! }
+use Rattle.walks.proofs.Names.{qed, by, move, keep, drop, fsplit, fjoin, feqL, suffices, frame, done, init, stop, hop, fld, from, addr, agg, and-then}
+use Rattle.walks.proofs.Names.{no-more, look, returns, enter, alloc1, alloc0, params1, pass1, pass0, free0, whole, sub, look-in, fmOf, owns}
+use Rattle.walks.proofs.Names.{uint-lawful, u32, RefT, now, MutSlice, ShrSlice, Room, finally, nothing, onEntry, cited, says, walkOf, ends-at, walked}
+use Rattle.walks.proofs.Names.{down, Knows, calls-told, calls-value, freeV, loc, count-of, sets, lands-in, walk-spec}
 use Rattle.recent.specs.declared.Recent.{Recent}
 use Rattle.plan.specs.declared.Answer.{Answer}
 use Rattle.state.specs.Outcome.{outcome}

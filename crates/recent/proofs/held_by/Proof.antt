@@ -1,5 +1,4 @@
 -- `held_by`: the definition's own test.
-use borrow.Author.Needs.{needs}
 use borrow.Author.Tests.{lt-ltb, le-ltb}
 use native.Mathlib.Omega.{arith}
 use Rattle.recent.proofs.held_by.Statement.{statement}
