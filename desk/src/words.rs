@@ -99,16 +99,17 @@ fn numbered(word: &[u8]) -> Option<(&'static str, Option<&[u8]>)> {
 }
 
 impl Words {
-    /// Takes the number of an option.
+    /// Takes the number of an option, which is given once.
     fn number(&mut self, option: &str, value: &[u8]) -> Result<(), Ending> {
-        let held = |least, most| {
-            number(value, &format!("the number of {option}"), least, most).map_err(Ending::wrong)
+        let (taken, least, most) = match option {
+            "--cycles" => (&mut self.cycles, 0, LAST_CLOCK),
+            _ => (&mut self.recent, LEAST_RECENT, MOST_RECENT),
         };
-        match option {
-            "--cycles" => self.cycles = Some(held(0, LAST_CLOCK)?),
-            _ if self.recent.is_some() => return Err(wrong("run", "takes", "--recent once")),
-            _ => self.recent = Some(held(LEAST_RECENT, MOST_RECENT)?),
+        if taken.is_some() {
+            return Err(wrong("run", "takes", &format!("{option} once")));
         }
+        let held = number(value, &format!("the number of {option}"), least, most);
+        *taken = Some(held.map_err(Ending::wrong)?);
         Ok(())
     }
 }

@@ -35,7 +35,7 @@ fn words(program: &Program, tally: &mut Tally) {
     let plan = "a text, and a plan file to write if it isn't the text's name with .plan";
     let run = "a plan file, and a file of offers if they don't come on standard input";
     let last = "it must be 1 to 16";
-    let cases: [(&[&str], String); 22] = [
+    let cases: [(&[&str], String); 23] = [
         (&[], "./hrt --help says how to call it".to_string()),
         (&["lists"], "./hrt --help says how to call it".to_string()),
         (&["plan"], format!("plan takes {plan}; ./hrt plan --help says more")),
@@ -82,6 +82,10 @@ fn words(program: &Program, tally: &mut Tally) {
         (
             &["run", "a", "--recent="],
             format!("the number of --recent is '', which is no whole number; {last}"),
+        ),
+        (
+            &["run", "a", "--cycles=5", "--cycles", "50"],
+            "run takes --cycles once; ./hrt run --help says more".to_string(),
         ),
         (
             &["run", "a", "--recent", "4", "--recent=4"],
