@@ -1,11 +1,11 @@
 -- Laws of kept entries: laid out one by one, the last of them, and the largest. Rests on specs/Recent.
 use mathlib.Core.List.{List, [], _∷_, _++_, append-assoc}
 use mathlib.Core.Path.{_≡_, refl, sym}
-use Prim.Native.Nat.{ℕ, zero, suc, _+_, _-_, _≤_, _<_, max}
+use Prim.Native.Nat.{ℕ, suc, _+_, _-_, _≤_, _<_, max}
 use native.Mathlib.Omega.{arith}
 use native.Mathlib.Numerals.{add-one}
 use lib.ListN.{length, getD, set, take, drop, replicate, length-append, length-drop}
-use lib.Seq.{length-take-le, take-suc, take-add, drop-append-le, drop-at, set-at, getD-drop}
+use lib.Seq.{length-take-le, take-suc, take-add, take-at, drop-append-le, drop-at, set-at, getD-drop}
 use Rattle.recent.specs.Recent.{mostKept, largest, laidOut, oneMore}
 
 -- one entry more is laid out where the first zero stood
@@ -58,15 +58,10 @@ unfolding largest
 largest-append [] k = omega arith
 largest-append (x ∷ l) k = omega (arith, largest-append l k)
 
-largest-zeros : (n : ℕ) → largest (replicate n 0) ≡ 0
-unfolding largest
-largest-zeros zero = refl
-largest-zeros (suc n) = omega (arith, largest-zeros n)
-
--- the zeros behind make no difference
-pub largest-laid : (l : List ℕ) → largest (laidOut l) ≡ largest l
+-- the kept ones among what is laid out
+pub kept-laid : (l : List ℕ) (n : ℕ) → length l ≡ n → take n (laidOut l) ≡ l
 unfolding laidOut
-largest-laid l = omega (arith, largest-append l (replicate (mostKept - length l) 0), largest-zeros (mostKept - length l))
+kept-laid l n e = take-at l (replicate (mostKept - length l) 0) n e
 
 -- the largest of one entry more
 pub largest-more : (l : List ℕ) (j : ℕ) → j < length l → max (largest (take j l)) (getD l j 0) ≡ largest (take (j + 1) l)

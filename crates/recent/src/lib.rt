@@ -1,7 +1,7 @@
 // The record of a flow's recent flights, by value. Rests on laws.
 ghost use mathlib.Core.Path.{_≡_};
 ghost use Prim.Native.Nat.{_+_, _-_, _≤_, max};
-ghost use lib.ListN.{length};
+ghost use lib.ListN.{length, take};
 ghost use Rattle.recent.specs.Recent.{mostKept, largest, laidOut, heldBy, oneMore, withDelivery};
 
 // A record keeps at most this many deliveries.
@@ -65,13 +65,14 @@ fn larger(a: u32, b: u32) -> u32
     a
 }
 
-// The largest of the entries.
-fn largest(a: [u32; MOST_KEPT]) -> u32
-    ensures { λ r. ⌜ r ≡ largest a ⌝ }
+// The largest of the first n entries.
+fn largest(a: [u32; MOST_KEPT], n: usize) -> u32
+    requires { ⌜ n ≤ mostKept ⌝ }
+    ensures { λ r. ⌜ r ≡ largest (take n a) ⌝ }
 {
     let mut most = 0u32;
-    for j in 0..MOST_KEPT {
-        most = larger(most, a[j]);
+    for i in 0..n {
+        most = larger(most, a[i]);
     }
     most
 }
@@ -82,15 +83,15 @@ pub fn with_delivery(r: Recent, last: u32, flight: u32, d: u32) -> Recent
     ensures { λ k. ⌜ k ≡ withDelivery last flight d r ⌝ }
 {
     let held = held_by(last, r.held);
-    let oldest = gone(last, held);
+    let kept = held + 1 - gone(last, held);
     let old_flights = r.flights;
     let old_deflections = r.deflections;
     let flights = one_more(last, held, old_flights, flight);
     let deflections = one_more(last, held, old_deflections, d);
-    let longest = largest(flights);
-    let most = largest(deflections);
+    let longest = largest(flights, kept as usize);
+    let most = largest(deflections, kept as usize);
     Recent {
-        held: held + 1 - oldest,
+        held: kept,
         longest,
         most,
         flights,

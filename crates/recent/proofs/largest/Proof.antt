@@ -4,18 +4,16 @@ use Prim.Native.Nat.{_-_, _≤_}
 use borrow.Author.Needs.{needs}
 use native.Mathlib.Omega.{arith}
 use lib.ListN.{take}
-use lib.Seq.{take-all}
-use Rattle.recent.specs.Recent.{mostKept}
 use Rattle.recent.specs.Recent as Recent
 use Rattle.recent.proofs.Kept.{largest-more}
 use Rattle.recent.proofs.largest.Statement.{statement}
 use Rattle.recent.proofs.largest.Tie as tie
 
 abbrev Inv-loop : tie.InvT-loop
-Inv-loop a most₀ j₀ most j = (j ≤ mostKept) × (most ≡ Recent.largest (take j a))
+Inv-loop n a most₀ i₀ most i = (i ≤ n) × (most ≡ Recent.largest (take i a))
 
 abbrev μ-loop : tie.MeasureT-loop
-μ-loop a most₀ j₀ most j = mostKept - j
+μ-loop n a most₀ i₀ most i = n - i
 
 loop-holds : tie.Need-loop-holds Inv-loop μ-loop
 unfolding Recent.largest
@@ -24,13 +22,13 @@ loop-holds c = (omega arith, refl)
 loop-again : tie.Need-loop-again Inv-loop μ-loop
 loop-again c =
     let a = c .before .before .before .args .t1 in
-    let j = c .before .before .loop .j in
-    (omega arith, c .larger .ensures ∙ rw (c .before .before .loop .inv .1) (largest-more a j (omega arith)))
+    let i = c .before .before .loop .i in
+    (omega arith, c .larger .ensures ∙ rw (c .before .before .loop .inv .1) (largest-more a i (omega arith)))
 
 returns : tie.Need-returns Inv-loop μ-loop
 returns c =
-    let a = c .before .before .args .t1 in
-    c .before .loop .inv .1 ∙ rw (take-all (c .before .loop .j) a (omega arith))
+    let all : c .before .loop .i ≡ c .before .before .args .n = omega arith in
+    c .before .loop .inv .1 ∙ rw all
 
 pub largest-spec : {M : Type 1} → statement M
 largest-spec =
