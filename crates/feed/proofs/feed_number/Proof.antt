@@ -1,7 +1,13 @@
 -- `feed_number`: the definition's own tests.
+use mathlib.Core.Bool.{cond}
+use mathlib.Core.Path.{_≡_}
+use Prim.Native.Nat.{ℕ}
 use borrow.Author.Needs.{needs}
 use borrow.Author.Tests.{lt-ltb, le-ltb, le-leb, lt-leb}
+use Rattle.laws.specs.Count.{any}
+use Rattle.state.specs.Read.{planIn}
 use Rattle.state.proofs.View.{view-count}
+use Rattle.delivery.specs.Groups.{groupsOf, strange}
 use Rattle.feed.specs.Feed.{feedNumber}
 use Rattle.feed.proofs.feed_number.Statement.{statement}
 use Rattle.feed.proofs.feed_number.Tie as tie
@@ -18,31 +24,19 @@ returns-3 : tie.Need-returns-3
 unfolding feedNumber
 returns-3 c = rw (view-count, le-ltb _ _ (c .before .before .if1 .left), le-leb _ _ (c .before .if2 .left), lt-leb _ _ (c .if3 .taken))
 
-returns-4 : tie.Need-returns-4
+-- past 16 and 17 the groups decide
+by-groups : (c : tie.Else3) → let a = c .before .before .before .before .before .before .args in
+    let p = planIn (a .state .now) in
+    cond {A = ℕ} (any (strange p) (groupsOf (a .deliveries .now))) 12 0 ≡ feedNumber p (groupsOf (a .deliveries .now)) (a .count) (a .last)
 unfolding feedNumber
-returns-4 c =
-    let limit = c .before .before in
-    rw (
-      view-count,
-      le-ltb _ _ (limit .before .before .if1 .left),
-      le-leb _ _ (limit .before .if2 .left),
-      le-leb _ _ (limit .if3 .left),
-      ← (c .before .any-strange .ensures),
-      c .if4 .taken,
-    )
+by-groups c =
+    rw (view-count, le-ltb _ _ (c .before .before .if1 .left), le-leb _ _ (c .before .if2 .left), le-leb _ _ (c .if3 .left))
+
+returns-4 : tie.Need-returns-4
+returns-4 c = rw (← (by-groups (c .before .before)), ← (c .before .any-strange .ensures), c .if4 .taken)
 
 returns-5 : tie.Need-returns-5
-unfolding feedNumber
-returns-5 c =
-    let limit = c .before .before in
-    rw (
-      view-count,
-      le-ltb _ _ (limit .before .before .if1 .left),
-      le-leb _ _ (limit .before .if2 .left),
-      le-leb _ _ (limit .if3 .left),
-      ← (c .before .any-strange .ensures),
-      c .if4 .left,
-    )
+returns-5 c = rw (← (by-groups (c .before .before)), ← (c .before .any-strange .ensures), c .if4 .left)
 
 pub feed-number-spec : {M : Type 1} → statement M
 feed-number-spec =
