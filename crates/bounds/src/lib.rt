@@ -1,11 +1,13 @@
 // Bounds from a plan file: the window and the flight bound of a flow. Rests on plan and window.
 use file::Trailer;
 use flow::Flow;
+use flow::Port;
 use plan::Answer;
 use window::Window;
 ghost use mathlib.Core.Path.{_≡_};
 ghost use Prim.Native.Nat.{_+_, _*_, _≤_};
 ghost use lib.ListN.{length};
+ghost use Rattle.flow.specs.Offsets.{portOf};
 ghost use Rattle.flow.specs.Plan.{flowAt};
 ghost use Rattle.plan.specs.declared.Answer.the-variants.{Done};
 ghost use Rattle.file.specs.Layout.{planOf};
@@ -23,9 +25,18 @@ pub fn flow_at(file: &[u8], t: Trailer, f: u32) -> Flow
 }
 
 // Flow g, after the n rivals of flow f among the flows before it.
-fn meet(file: &[u8], t: Trailer, own: Flow, f: u32, g: u32, rivals: &mut [u32], n: usize) -> usize
+fn meet(
+    file: &[u8],
+    t: Trailer,
+    own: Flow,
+    port: Port,
+    f: u32,
+    g: u32,
+    rivals: &mut [u32],
+    n: usize,
+) -> usize
     requires { ⌜ (FlowInFile (now file) t f) × (FlowInFile (now file) t g) ⌝ }
-    requires { ⌜ own ≡ flowAt (planOf (now file)) f ⌝ }
+    requires { ⌜ (own ≡ flowAt (planOf (now file)) f) × (port ≡ portOf (t .sx) own) ⌝ }
     requires { ⌜ RivalsAmong (planOf (now file)) f g (now rivals) n ⌝ }
     ensures { λ r. ⌜ RivalsAmong (planOf (now (file .entry))) f (g + 1) (now (rivals .exit)) r ⌝ }
 {
@@ -33,7 +44,7 @@ fn meet(file: &[u8], t: Trailer, own: Flow, f: u32, g: u32, rivals: &mut [u32], 
         return n;
     }
     let other = flow_at(file, t, g);
-    let c = conflict::conflict_of(t.sx, t.sy, own, other);
+    let c = conflict::conflict_of(t.sx, t.sy, own, port, other);
     window::keep_rival(rivals, n, other, c)
 }
 
@@ -43,10 +54,11 @@ fn find_rivals(file: &[u8], t: Trailer, f: u32, rivals: &mut [u32]) -> usize
     ensures { λ r. ⌜ RivalsAmong (planOf (now (file .entry))) f (t .count) (now (rivals .exit)) r ⌝ }
 {
     let own = flow_at(file, t, f);
+    let port = own.port(t.sx);
     let count = t.count;
     let mut n = 0usize;
     for g in 0..count {
-        n = meet(file, t, own, f, g, rivals, n);
+        n = meet(file, t, own, port, f, g, rivals, n);
     }
     n
 }

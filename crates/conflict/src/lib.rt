@@ -2,6 +2,7 @@
 use flow::Flow;
 use flow::Port;
 ghost use mathlib.Core.Path.{_≡_};
+ghost use Rattle.flow.specs.Offsets.{portOf};
 ghost use Rattle.conflict.specs.Conflict.{conflict, conflictEast, conflictSouth};
 ghost use Rattle.conflict.specs.Inner.{Pair};
 
@@ -49,15 +50,15 @@ fn conflict_south(sx: u32, sy: u32, f: Flow, g: Flow) -> Conflict
     Conflict::Spread(rows * sx)
 }
 
-// How g, a flow other than f, conflicts with f at f's source.
-pub fn conflict_of(sx: u32, sy: u32, f: Flow, g: Flow) -> Conflict
+// How g, a flow other than f, conflicts with f at f's source, by f's port.
+pub fn conflict_of(sx: u32, sy: u32, f: Flow, port: Port, g: Flow) -> Conflict
     requires { ⌜ Pair sx sy f g ⌝ }
+    requires { ⌜ port ≡ portOf sx f ⌝ }
     ensures { λ r. ⌜ r ≡ conflict sx sy f g ⌝ }
 {
     if f.same_client(g) {
         return Conflict::Spread(0);
     }
-    let port = f.port(sx);
     match port {
         Port::East => conflict_east(sx, sy, f, g),
         Port::South => conflict_south(sx, sy, f, g),

@@ -1,8 +1,8 @@
 // A flow's plan numbers, its offsets on the torus and its port. Rests on laws and torus.
 ghost use mathlib.Core.Path.{_≡_};
-ghost use Prim.Native.Nat.{_<_};
+ghost use Prim.Native.Nat.{_≤_, _<_};
 ghost use Rattle.flow.specs.Offsets.{ΔX, ΔY, portOf, sameClient};
-ghost use Rattle.flow.specs.Plan.{onTorus};
+ghost use Rattle.flow.specs.Plan.{mostSize, onTorus};
 
 // The six plan numbers of a flow, in record order: source, destination, period P and burst σ.
 pub struct Flow {
@@ -40,21 +40,24 @@ impl Flow {
     // ΔX, on a torus of sx columns.
     pub fn offset_x(self, sx: u32) -> u32
         requires { ⌜ (self .xs < sx) × (self .xd < sx) ⌝ }
+        requires { ⌜ sx ≤ mostSize ⌝ }
         ensures { λ r. ⌜ r ≡ ΔX sx self ⌝ }
     {
-        torus::offset(sx, self.xs, self.xd)
+        (self.xd + sx - self.xs) % sx
     }
 
     // ΔY, on a torus of sy rows.
     pub fn offset_y(self, sy: u32) -> u32
         requires { ⌜ (self .ys < sy) × (self .yd < sy) ⌝ }
+        requires { ⌜ sy ≤ mostSize ⌝ }
         ensures { λ r. ⌜ r ≡ ΔY sy self ⌝ }
     {
-        torus::offset(sy, self.ys, self.yd)
+        (self.yd + sy - self.ys) % sy
     }
 
     pub fn port(self, sx: u32) -> Port
         requires { ⌜ (self .xs < sx) × (self .xd < sx) ⌝ }
+        requires { ⌜ sx ≤ mostSize ⌝ }
         ensures { λ r. ⌜ r ≡ portOf sx self ⌝ }
     {
         let dx = self.offset_x(sx);

@@ -19,10 +19,10 @@ use Rattle.place.specs.InPlace.{inPlace, inNorth, inFirstRow, inLaterRow
 use Rattle.place.specs.Inner.{OnColumn}
 
 -- ΔX and D×Sx for at most 16 deflections
-pub small : (sx sy : ℕ) (f : Flow) (x d : ℕ) → OnColumn sx sy f x → d ≤ mostSize → (ΔX sx f < mostSize) × (d * sx ≤ mostSize * mostSize)
-small sx sy f x d on h =
+pub small : (sx sy : ℕ) (f : Flow) (dx x d : ℕ) → OnColumn sx sy f dx x → d ≤ mostSize → (dx < mostSize) × (d * sx ≤ mostSize * mostSize)
+small sx sy f dx x d on h =
     let near = offset-below sx (f .xs) (f .xd) (on .flow-ok .xs-on) (on .flow-ok .xd-on) in
-    (omega arith, mul-le-mul h (on .sx-most))
+    (omega (arith, on .offset), mul-le-mul h (on .sx-most))
 
 -- no packet is in a register in the cycle of its entry
 pub too-early : (sx sy : ℕ) (f : Flow) (place : Place) (d e : ℕ) → e < 1 → false ≡ inPlace sx sy f place d e

@@ -7,13 +7,14 @@ ghost use Prim.Native.Nat.{_+_, _≤_, _<_};
 ghost use lib.Dec.{leb, eqb};
 ghost use lib.ListN.{length, getD};
 ghost use Rattle.laws.specs.Bounded.{allBelow};
+ghost use Rattle.flow.specs.Offsets.{ΔX};
 ghost use Rattle.flow.specs.Ranges.{FlowOk};
 ghost use Rattle.place.specs.Input.{placeOf};
 ghost use Rattle.state.specs.declared.Register.the-variants.{Packet};
-ghost use Rattle.state.specs.Layout.{flowSize, registerSize};
+ghost use Rattle.state.specs.Layout.{flowSize, registerSize, routerSize};
 ghost use Rattle.state.specs.Read.{sxIn, syIn, flowIn};
 ghost use Rattle.state.specs.Forms.{isPlaced, contentsFit, registerFits, cellFits};
-ghost use Rattle.state.specs.Facts.{FlowsFit, RouterOf};
+ghost use Rattle.state.specs.Facts.{Headed, FlowsFit, RouterOf};
 
 // The four words from a place on are 0.
 pub fn four_zero(w: &[u32], at: usize) -> bool
@@ -33,10 +34,20 @@ pub fn in_range(n: u32, most: u32) -> bool
     n <= most
 }
 
-// A packet of the flow at a place entered before the clock, and is in place.
-fn is_placed(w: &[u32], input: Input, x: u32, y: u32, at: usize, entry: u32, d: u32) -> bool
-    requires { ⌜ RouterOf (now w) x y ⌝ }
+// A packet of the flow at a place, whose ΔX is dx, entered before the clock, and is in place.
+fn is_placed(
+    w: &[u32],
+    input: Input,
+    x: u32,
+    y: u32,
+    at: usize,
+    dx: u32,
+    entry: u32,
+    d: u32,
+) -> bool
+    requires { ⌜ (Headed (now w)) × ((x < sxIn (now w)) × (y < syIn (now w))) ⌝ }
     requires { ⌜ (at + flowSize ≤ length (now w)) × FlowOk (sxIn (now w)) (syIn (now w)) (flowIn (now w) at) ⌝ }
+    requires { ⌜ dx ≡ ΔX (sxIn (now w)) (flowIn (now w) at) ⌝ }
     ensures { λ r. ⌜ r ≡ isPlaced (now (w .entry)) (placeOf input x y) at entry d ⌝ }
 {
     let clock = w[state::CLOCK];
@@ -47,6 +58,7 @@ fn is_placed(w: &[u32], input: Input, x: u32, y: u32, at: usize, entry: u32, d: 
         w[state::SX],
         w[state::SY],
         state::flow_in(w, at),
+        dx,
         input,
         x,
         y,
@@ -58,6 +70,7 @@ fn is_placed(w: &[u32], input: Input, x: u32, y: u32, at: usize, entry: u32, d: 
 // The packet of a register is that of a state.
 fn packet_fits(
     w: &[u32],
+    offsets: &[u8],
     input: Input,
     x: u32,
     y: u32,
@@ -66,22 +79,23 @@ fn packet_fits(
     entry: u32,
     d: u32,
 ) -> bool
-    requires { ⌜ RouterOf (now w) x y ⌝ }
+    requires { ⌜ RouterOf (now w) (now offsets) x y ⌝ }
     ensures { λ r. ⌜ r ≡ contentsFit (now (w .entry)) (placeOf input x y) 0 (Packet flow serial entry d) ⌝ }
 {
     if w[state::FLOWS] <= flow {
         return false;
     }
-    let at = state::flow_place(flow as usize);
+    let number = flow as usize;
+    let at = state::flow_place(number);
     if !in_range(serial, state::entered_in(w, at)) {
         return false;
     }
-    is_placed(w, input, x, y, at, entry, d)
+    is_placed(w, input, x, y, at, offsets[number] as u32, entry, d)
 }
 
 // The four words of a register are those of a state.
-fn register_fits(w: &[u32], input: Input, x: u32, y: u32, at: usize) -> bool
-    requires { ⌜ RouterOf (now w) x y ⌝ }
+fn register_fits(w: &[u32], offsets: &[u8], input: Input, x: u32, y: u32, at: usize) -> bool
+    requires { ⌜ RouterOf (now w) (now offsets) x y ⌝ }
     requires { ⌜ at + registerSize ≤ length (now w) ⌝ }
     ensures { λ r. ⌜ r ≡ registerFits (now (w .entry)) (placeOf input x y) at ⌝ }
 {
@@ -92,45 +106,56 @@ fn register_fits(w: &[u32], input: Input, x: u32, y: u32, at: usize) -> bool
             serial,
             entry,
             deflections,
-        } => packet_fits(w, input, x, y, flow, serial, entry, deflections),
+        } => packet_fits(w, offsets, input, x, y, flow, serial, entry, deflections),
     }
+}
+
+// Neither register of a router has a packet.
+fn is_idle(w: &[u32], at: usize) -> bool
+    requires { ⌜ at + routerSize ≤ length (now w) ⌝ }
+    ensures { λ r. ⌜ r ≡ eqb (getD (now (w .entry)) at 0) 0 && eqb (getD (now (w .entry)) (at + registerSize) 0) 0 ⌝ }
+{
+    w[at] | w[at + state::REGISTER_SIZE] == 0
 }
 
 // Both registers of a router are those of a state.
-fn cell_fits(w: &[u32], x: u32, y: u32) -> bool
-    requires { ⌜ RouterOf (now w) x y ⌝ }
+fn cell_fits(w: &[u32], offsets: &[u8], x: u32, y: u32) -> bool
+    requires { ⌜ RouterOf (now w) (now offsets) x y ⌝ }
     ensures { λ r. ⌜ r ≡ cellFits (now (w .entry)) x y ⌝ }
 {
     let at = state::router_place(w[state::FLOWS] as usize, w[state::SX], x, y);
-    if !register_fits(w, Input::West, x, y, at) {
+    if is_idle(w, at) {
+        return four_zero(w, at) & four_zero(w, at + state::REGISTER_SIZE);
+    }
+    if !register_fits(w, offsets, Input::West, x, y, at) {
         return false;
     }
-    register_fits(w, Input::North, x, y, at + state::REGISTER_SIZE)
+    register_fits(w, offsets, Input::North, x, y, at + state::REGISTER_SIZE)
 }
 
 // All registers of a row are those of a state.
-fn row_fits(w: &[u32], y: u32) -> bool
-    requires { ⌜ FlowsFit (now w) ⌝ }
+fn row_fits(w: &[u32], offsets: &[u8], y: u32) -> bool
+    requires { ⌜ FlowsFit (now w) (now offsets) ⌝ }
     requires { ⌜ y < syIn (now w) ⌝ }
     ensures { λ r. ⌜ r ≡ allBelow (sxIn (now (w .entry))) (λ x. cellFits (now (w .entry)) x y) ⌝ }
 {
     let sx = w[state::SX];
     for x in 0..sx {
-        if !cell_fits(w, x, y) {
+        if !cell_fits(w, offsets, x, y) {
             return false;
         }
     }
     true
 }
 
-// All registers are those of a state.
-pub fn rows_fit(w: &[u32]) -> bool
-    requires { ⌜ FlowsFit (now w) ⌝ }
+// All registers are those of a state, with ΔX of every flow at hand.
+pub fn rows_fit(w: &[u32], offsets: &[u8]) -> bool
+    requires { ⌜ FlowsFit (now w) (now offsets) ⌝ }
     ensures { λ r. ⌜ r ≡ allBelow (syIn (now (w .entry))) (λ y. allBelow (sxIn (now (w .entry))) (λ x. cellFits (now (w .entry)) x y)) ⌝ }
 {
     let sy = w[state::SY];
     for y in 0..sy {
-        if !row_fits(w, y) {
+        if !row_fits(w, offsets, y) {
             return false;
         }
     }

@@ -92,6 +92,12 @@ unfolding registerFits
 empty-facts w place at e r k h =
     eqb-true _ _ (all-at (λ k. eqb (getD w (at + k) 0) 0) registerSize (ap (contentsFit w place at) (sym r) ∙ e) k h)
 
+-- without a packet, four zeros decide
+pub empty-fits : (w : List ℕ) (place : Place) (at : ℕ) → eqb (getD w at 0) 0 ≡ true
+    → registerFits w place at ≡ allBelow registerSize (λ k. eqb (getD w (at + k) 0) 0)
+unfolding registerFits
+empty-fits w place at e = rw e
+
 pub packet-facts : (w : List ℕ) (place : Place) (at : ℕ) → registerFits w place at ≡ true
     → (flow serial entry deflections : ℕ) → registerIn w at ≡ Packet flow serial entry deflections
     → PacketFacts w place flow serial entry deflections

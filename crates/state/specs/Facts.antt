@@ -6,6 +6,7 @@ use mathlib.Core.Path.{_≡_}
 use Prim.Native.Nat.{ℕ, _+_, _≤_, _<_}
 use lib.ListN.{length, getD}
 use Rattle.flow.specs.declared.Flow.{Flow}
+use Rattle.flow.specs.Offsets.{ΔX}
 use Rattle.flow.specs.Plan.{mostFlows}
 use Rattle.flow.specs.Ranges.{FlowOk, SizeOk}
 use Rattle.flow.specs.Limits.{mostWaiting}
@@ -46,14 +47,20 @@ pub record FlowFacts (w : List ℕ) (f : ℕ) : Type 0 where
   pub numbers : FlowOk (sxIn w) (syIn w) (flowIn w (flowPlace f))
   pub tally : TallyFacts (clockIn w) (flowIn w (flowPlace f)) (tallyIn w (flowPlace f))
 
--- every flow of such words fits
-pub record FlowsFit (w : List ℕ) : Type 0 where
+-- a list has ΔX of each of the first n flows, by its number, and room for all flows
+pub record OffsetsIn (w : List ℕ) (n : ℕ) (offsets : List ℕ) : Type 0 where
+  pub room : countIn w ≤ length offsets
+  pub offset : (f : ℕ) → f < n → getD offsets f 0 ≡ ΔX (sxIn w) (flowIn w (flowPlace f))
+
+-- every flow of such words fits, and its ΔX is at hand
+pub record FlowsFit (w offsets : List ℕ) : Type 0 where
   pub headed : Headed w
   pub flow : (f : ℕ) → f < countIn w → FlowFacts w f
+  pub known : OffsetsIn w (countIn w) offsets
 
 -- of such words, the router in column x and row y
-pub record RouterOf (w : List ℕ) (x y : ℕ) : Type 0 where
-  pub fit : FlowsFit w
+pub record RouterOf (w offsets : List ℕ) (x y : ℕ) : Type 0 where
+  pub fit : FlowsFit w offsets
   pub column : x < sxIn w
   pub row : y < syIn w
 

@@ -1,13 +1,30 @@
 -- Laws of offsets and neighbours for every size and all places below it. Rests on specs/Axis; above it only the starred cases,
 -- which compute, open that.
-use mathlib.Core.Path.{_≡_, sym}
+use mathlib.Core.Path.{_≡_, refl, sym}
 use mathlib.Core.Logic.{_⊎_, inl, inr, _≢_}
-use Prim.Native.Nat.{ℕ, _+_, _-_, _≤_, _<_}
-use native.Mathlib.Nat.{mod-eq-of-lt, mod-lt, add-mod-right}
+use Prim.Native.Nat.{ℕ, _+_, _-_, _*_, _%_, _≤_, _<_}
+use native.Mathlib.Nat.{mod-eq-of-lt, mod-lt, add-mod-right, add-mul-mod-self-right}
 use native.Mathlib.Decide.{decLe, ℕ-discrete}
 use native.Mathlib.Omega.{arith}
 use borrow.Author.Tests.{eq-eqb, ne-eqb}
 use Rattle.torus.specs.Axis.{offset, next, lap, previous}
+
+-- one remainder and no branch: with a size more, the difference never passes below 0
+pub offset-remainder : (size from to : ℕ) → (to + size - from) % size ≡ offset size from to
+unfolding offset
+offset-remainder size from to = refl
+
+-- over the integers: (to − from) mod size is the one number below the size that is whole sizes away from to − from
+pub offset-mod : (size from to d k l : ℕ) → from < size → d < size → d + from + k * size ≡ to + l * size → d ≡ offset size from to
+offset-mod size from to d k l f below whole =
+    let e : to + size - from + l * size ≡ d + (k + 1) * size = omega arith in
+    rw (
+      ← (offset-remainder size from to),
+      ← (add-mul-mod-self-right (to + size - from) l size),
+      e,
+      add-mul-mod-self-right d (k + 1) size,
+      mod-eq-of-lt {n = d} {m = size} below,
+    )
 
 -- `to` lies at or after `from`, or the way goes round the end once
 pub offset-cases : (size from to : ℕ) → from < size → to < size
@@ -40,9 +57,9 @@ next-cases size at l =
 pub offset-is : (size from to : ℕ) → from < size → to < size → (d : ℕ)
     → ((from ≤ to) × (d + from ≡ to)) ⊎ ((to < from) × (d + from ≡ to + size)) → d ≡ offset size from to
 offset-is size from to f t d h =
-    elim (offset-cases size from to f t) [
-      | inl a ↦ elim h [ inl b ↦ omega arith | inr b ↦ absurd (omega arith) ]
-      | inr a ↦ elim h [ inl b ↦ absurd (omega arith) | inr b ↦ omega arith ]
+    elim h [
+      | inl ahead ↦ offset-mod size from to d 0 0 f (omega arith) (omega arith)
+      | inr round ↦ offset-mod size from to d 0 1 f (omega arith) (omega arith)
     ]
 
 -- no way to go: the same place

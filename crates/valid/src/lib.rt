@@ -1,14 +1,16 @@
 // When words form a state, and what a call on a state refuses first: 8 and 9. Rests on registers.
 use flow::Flow;
 use state::Tally;
+ghost use mathlib.Core.Bool.{true};
 ghost use mathlib.Core.Path.{_≡_};
 ghost use Prim.Native.Nat.{_≤_, _<_};
 ghost use lib.ListN.{length};
 ghost use Rattle.laws.specs.Bounded.{allBelow};
-ghost use Rattle.state.specs.Layout.{headerSize};
-ghost use Rattle.state.specs.Read.{countIn};
-ghost use Rattle.state.specs.Forms.{headerFits, numbersFit, tallyFits, flowFits, sizeIn, stateNumber};
-ghost use Rattle.state.specs.Facts.{HeaderFacts, Headed, FlowOf};
+ghost use Rattle.flow.specs.Offsets.{ΔX};
+ghost use Rattle.state.specs.Layout.{headerSize, flowPlace};
+ghost use Rattle.state.specs.Read.{sxIn, countIn, flowIn};
+ghost use Rattle.state.specs.Forms.{headerFits, numbersFit, tallyFits, flowFits, restFits, sizeIn, stateNumber};
+ghost use Rattle.state.specs.Facts.{HeaderFacts, Headed, FlowOf, FlowFacts, OffsetsIn};
 
 // The most of a flow's period, and of its burst.
 const MOST_PERIOD: u32 = 65535;
@@ -72,18 +74,41 @@ fn flow_fits(w: &[u32], f: usize) -> bool
     tally_fits(w[state::CLOCK], flow, state::tally_in(w, at))
 }
 
-// Every flow's words are those of a state.
-fn flows_fit(w: &[u32]) -> bool
-    requires { ⌜ Headed (now w) ⌝ }
+// ΔX of flow f, which fits a byte.
+fn offset_of(w: &[u32], f: usize) -> u8
+    requires { ⌜ (FlowOf (now w) f) × (FlowFacts (now w) f) ⌝ }
+    ensures { λ r. ⌜ r ≡ ΔX (sxIn (now (w .entry))) (flowIn (now (w .entry)) (flowPlace f)) ⌝ }
+{
+    let flow = state::flow_in(w, state::flow_place(f));
+    flow.offset_x(w[state::SX]) as u8
+}
+
+// Every flow's words are those of a state. Then ΔX of each is noted, by its number.
+fn flows_fit(w: &[u32], offsets: &mut [u8]) -> bool
+    requires { ⌜ (Headed (now w)) × (countIn (now w) ≤ length (now offsets)) ⌝ }
     ensures { λ r. ⌜ r ≡ allBelow (countIn (now (w .entry))) (flowFits (now (w .entry))) ⌝ }
+    ensures { λ r. ⌜ (r ≡ true → OffsetsIn (now (w .entry)) (countIn (now (w .entry))) (now (offsets .exit))) ⌝ }
 {
     let count = w[state::FLOWS] as usize;
     for f in 0..count {
         if !flow_fits(w, f) {
             return false;
         }
+        offsets[f] = offset_of(w, f);
     }
     true
+}
+
+// The words behind the header are those of a state.
+fn rest_fits(w: &[u32]) -> bool
+    requires { ⌜ Headed (now w) ⌝ }
+    ensures { λ r. ⌜ r ≡ restFits (now (w .entry)) ⌝ }
+{
+    let mut offsets = [0u8; plan::MOST_FLOWS as usize];
+    if !flows_fit(w, &mut offsets) {
+        return false;
+    }
+    registers::rows_fit(w, &offsets)
 }
 
 // The size that the header asks for.
@@ -108,10 +133,7 @@ pub fn state_number(w: &[u32]) -> u32
     if length < size_in(w) {
         return 8;
     }
-    if !flows_fit(w) {
-        return 9;
-    }
-    if !registers::rows_fit(w) {
+    if !rest_fits(w) {
         return 9;
     }
     0

@@ -21,7 +21,7 @@ returns c = among-self _ _ _ _ _ (c .before .before .before .pre .1 .1) (c .if1 
 conflict-of-requires : tie.Need-conflict-of-requires
 conflict-of-requires c κs =
     let p = c .before .before .before .before .pre in
-    rw (p .1 .0, c .flow-at .ensures) (flow-pair _ _ _ (p .0 .0) (bytes (c .before .before .before)) _ (p .0 .1))
+    (rw (p .1 .0 .0, c .flow-at .ensures) (flow-pair _ _ _ (p .0 .0) (bytes (c .before .before .before)) _ (p .0 .1)), p .1 .0 .1)
 
 -- the conflict of the two flows of the plan
 met : (c : tie.After-conflict-of) → let a = c .before .before .before .before .before .args in let p = planOf (a .file .now) in
@@ -29,7 +29,7 @@ met : (c : tie.After-conflict-of) → let a = c .before .before .before .before 
 met c =
     let p = c .before .before .before .before .before .pre in
     let o = p .0 .0 .opened in
-    c .conflict-of .ensures ∙ rw (opened-sx _ _ o, opened-sy _ _ o, ← (p .1 .0), ← (c .before .flow-at .ensures))
+    c .conflict-of .ensures ∙ rw (opened-sx _ _ o, opened-sy _ _ o, ← (p .1 .0 .0), ← (c .before .flow-at .ensures))
 
 keep-rival-requires : tie.Need-keep-rival-requires
 keep-rival-requires c κs =

@@ -11,26 +11,18 @@ returns c = rw (← (c .before .same-client .ensures), c .if1 .taken)
 returns-2 : tie.Need-returns-2
 unfolding conflict
 returns-2 c =
-    rw (
-      ← (c .before .before .before .before .before .same-client .ensures),
-      c .before .before .before .before .if1 .left,
-      ← (c .before .before .before .port .ensures),
-      c .before .enum-told .given .1,
-    )
+    let other = c .before .before .before in
+    rw (← (other .before .same-client .ensures), other .if1 .left, ← (other .before .before .pre .1), c .before .enum-told .given .1)
     (c .conflict-east .ensures)
 
 returns-3 : tie.Need-returns-3
 unfolding conflict
 returns-3 c =
-    rw (
-      ← (c .before .before .before .before .before .same-client .ensures),
-      c .before .before .before .before .if1 .left,
-      ← (c .before .before .before .port .ensures),
-      c .before .enum-told2 .given .1,
-    )
+    let other = c .before .before .before in
+    rw (← (other .before .same-client .ensures), other .if1 .left, ← (other .before .before .pre .1), c .before .enum-told2 .given .1)
     (c .conflict-south .ensures)
 
 pub conflict-of-spec : {M : Type 1} → statement M
 conflict-of-spec =
-    tie.close (tie.spec (λ c κs. search needs) returns (λ c κs. search needs) (λ c. search needs) (λ c κs. search needs)
-    (λ c. search needs) (λ c κs. search needs) returns-2 returns-3)
+    tie.close (tie.spec (λ c κs. search needs) returns (λ c. search needs) (λ c κs. search needs) (λ c. search needs)
+    (λ c κs. search needs) returns-2 returns-3)

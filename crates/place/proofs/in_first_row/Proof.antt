@@ -8,13 +8,19 @@ returns : tie.Need-returns
 returns c = search (cases, ← (c .before .offset .ensures))
 
 returns-2 : tie.Need-returns-2
-returns-2 c = search (cases, ← (c .before .before .before .offset .ensures), ← (c .before .offset-x .ensures))
+returns-2 c =
+    let columns = c .before .before in
+    search (cases, ← (columns .offset .ensures), ← (columns .before .pre .offset))
 
 returns-3 : tie.Need-returns-3
-returns-3 c = search (cases, ← (c .before .before .before .before .offset .ensures), ← (c .before .before .offset-x .ensures))
+returns-3 c =
+    let columns = c .before .before .before in
+    search (cases, ← (columns .offset .ensures), ← (columns .before .pre .offset))
 
 returns-4 : tie.Need-returns-4
-returns-4 c = search (cases, ← (c .before .before .before .before .offset .ensures), ← (c .before .before .offset-x .ensures))
+returns-4 c =
+    let columns = c .before .before .before in
+    search (cases, ← (columns .offset .ensures), ← (columns .before .pre .offset))
 
 pub in-first-row-spec : {M : Type 1} → statement M
-in-first-row-spec = tie.close (tie.spec (λ c κs. search needs) returns (λ c κs. search needs) returns-2 returns-3 returns-4)
+in-first-row-spec = tie.close (tie.spec (λ c κs. search needs) returns returns-2 returns-3 returns-4)

@@ -19,23 +19,24 @@ returns-3 : tie.Need-returns-3
 returns-3 c = search (cases, ← (c .before .before .before .offset-y .ensures))
 
 -- the summands are small
-summands : (c : tie.After-offset-x) → let a = c .before .before .before .before .before .args in
-    (c .offset-x .result < mostSize) × ((a .d - 1) * a .sx ≤ mostSize * mostSize)
+summands : (c : tie.Else3) → let a = c .before .before .before .before .args in
+    (a .dx < mostSize) × ((a .d - 1) * a .sx ≤ mostSize * mostSize)
 summands c =
-    let start = c .before .before .before .before .before in
-    rw (c .offset-x .ensures) (small _ _ _ _ (start .args .d - 1) (start .pre .0) (omega arith))
+    let start = c .before .before .before .before in
+    small _ _ _ _ _ (start .args .d - 1) (start .pre .0) (omega arith)
 
 last : (c : tie.After-lap) → c .lap .result ≤ mostSize
 last c =
-    let on = c .before .before .before .before .before .before .pre .0 in
+    let on = c .before .before .before .before .before .pre .0 in
     rw (c .lap .ensures) (omega (arith, lap-most _ _ _ (on .flow-ok .xd-on) (on .x-on)))
 
 returns-4 : tie.Need-returns-4
 returns-4 c =
-    search (cases, ← (c .before .before .before .before .before .offset-y .ensures), ← (c .before .offset-x .ensures), ← (c .lap .ensures))
+    let rows = c .before .before .before .before in
+    search (cases, ← (rows .offset-y .ensures), ← (rows .before .pre .0 .offset), ← (c .lap .ensures))
 
 pub in-later-row-spec : {M : Type 1} → statement M
 in-later-row-spec =
-    tie.close (tie.spec (λ c κs. search needs) returns returns-2 returns-3 (λ c κs. search needs) (λ c. omega (arith, summands c))
+    tie.close (tie.spec (λ c κs. search needs) returns returns-2 returns-3 (λ c. omega (arith, summands c))
     (λ c. omega (arith, summands c)) (λ c. omega (arith, summands c)) (λ c κs. search needs)
     (λ c. omega (arith, summands (c .before), last c)) returns-4)

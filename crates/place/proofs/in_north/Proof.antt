@@ -3,7 +3,6 @@ use Prim.Native.Nat.{_*_, _≤_, _<_}
 use borrow.Author.Needs.{needs}
 use native.Mathlib.Omega.{arith}
 use Rattle.laws.proofs.Cases.{cases}
-use Rattle.flow.specs.Offsets.{ΔX}
 use Rattle.flow.specs.Plan.{mostSize}
 use Rattle.place.proofs.InPlace.{small}
 use Rattle.place.proofs.in_north.Statement.{statement}
@@ -17,16 +16,17 @@ returns-4 c = search (cases, ← (c .before .before .offset-y .ensures))
 
 -- the summands are small
 summands : (c : tie.Else4) → let a = c .before .before .before .before .before .before .args in
-    (ΔX (a .sx) (a .f) < mostSize) × (a .d * a .sx ≤ mostSize * mostSize)
+    (a .dx < mostSize) × (a .d * a .sx ≤ mostSize * mostSize)
 summands c =
     let start = c .before .before .before .before .before .before in
-    small _ _ _ _ _ (start .pre .0) (omega arith)
+    small _ _ _ _ _ _ (start .pre .0) (omega arith)
 
 returns-5 : tie.Need-returns-5
-returns-5 c = search (cases, ← (c .before .before .before .offset-y .ensures), ← (c .offset-x .ensures))
+returns-5 c =
+    let rows = c .before .before in
+    search (cases, ← (rows .offset-y .ensures), ← (rows .before .before .before .before .pre .0 .offset))
 
 pub in-north-spec : {M : Type 1} → statement M
 in-north-spec =
-    tie.close (tie.spec (λ c. search cases) (λ c. search cases) (λ c κs. search needs) returns-3 returns-4 (λ c κs. search needs)
-    (λ c. omega (arith, summands (c .before))) (λ c. omega (arith, summands (c .before)))
-    (λ c. omega (arith, summands (c .before))) returns-5)
+    tie.close (tie.spec (λ c. search cases) (λ c. search cases) (λ c κs. search needs) returns-3 returns-4
+    (λ c. omega (arith, summands c)) (λ c. omega (arith, summands c)) (λ c. omega (arith, summands c)) returns-5)

@@ -12,11 +12,11 @@ use Rattle.place.proofs.in_place.Statement.{statement}
 use Rattle.place.proofs.in_place.Tie as tie
 
 -- the column is the torus's, and r is below Sy
-on-column : (c : tie.After-offset) → let a = c .before .before .args in (OnColumn (a .sx) (a .sy) (a .f) (a .x)) × (c .offset .result ≤ mostSize)
+on-column : (c : tie.After-offset) → let a = c .before .before .args in (OnColumn (a .sx) (a .sy) (a .f) (a .dx) (a .x)) × (c .offset .result ≤ mostSize)
 on-column c =
     let p = c .before .before .pre in
     let below = offset-below _ _ _ (p .0 .0 .ys-on) (p .0 .1 .1) in
-    (record { flow-ok = p .0 .0; sx-most = p .1 .0; x-on = p .0 .1 .0 }, rw (c .offset .ensures) (omega arith))
+    (record { flow-ok = p .0 .0; offset = p .1 .0; sx-most = p .1 .1 .0; sy-most = p .1 .1 .1; x-on = p .0 .1 .0 }, rw (c .offset .ensures) (omega arith))
 
 returns-2 : tie.Need-returns-2
 unfolding inPlace

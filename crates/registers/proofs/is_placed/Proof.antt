@@ -10,8 +10,8 @@ returns c = rw (le-ltb _ _ (c .if1 .taken))
 in-place-requires : tie.Need-in-place-requires
 in-place-requires c κs =
     let pre = c .before .before .before .before .before .before .pre in
-    let h = pre .0 .fit .headed .header in
-    ((rw (c .flow-in .ensures) (pre .1 .1), (pre .0 .column, pre .0 .row)), (h .sx-ok .most, h .sy-ok .most))
+    let h = pre .0 .0 .header in
+    rw (c .flow-in .ensures) ((pre .1 .0 .1, pre .0 .1), (pre .1 .1, (h .sx-ok .most, h .sy-ok .most)))
 
 returns-2 : tie.Need-returns-2
 returns-2 c = rw (lt-ltb _ _ (c .before .before .before .before .if1 .left), ← (c .before .flow-in .ensures)) (c .in-place .ensures)

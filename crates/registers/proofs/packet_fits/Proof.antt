@@ -19,18 +19,33 @@ returns-2 c =
       told-not (c .before .in-range .ensures) (c .if2 .taken),
     )
 
+-- the list has an offset for the flow
+offset-read : tie.Need-shared-slice-read-is-placed
+offset-read c =
+    let read = c .before .before .before .before .before in
+    let start = read .before .before .before .before in
+    omega (arith, read .if1 .left, start .pre .fit .known .room)
+
+offset-wide : tie.Need-cast-is-placed
+offset-wide c =
+    let read = c .before .before .before .before .before in
+    omega (arith, c .shared-slice-known4 .given (read .before .before .before .before .args .flow))
+
 -- the flow's own numbers
 is-placed-requires : tie.Need-is-placed-requires
 is-placed-requires c κs =
-    let at = c .before .before .before in
-    let start = at .before .before .before .before in
+    let at = c .before .before .before .before in
+    let start = at .before .before .before .before .before in
     let below = at .before .if1 .left in
-    let long = start .pre .fit .headed .long in
-    (start .pre, rw (at .flow-place .ensures) (omega arith, start .pre .fit .flow (start .args .flow) below .numbers))
+    let fit = start .pre .fit in
+    let long = fit .headed .long in (
+      (fit .headed, (start .pre .column, start .pre .row)),
+      rw (at .flow-place .ensures) ((omega arith, fit .flow (start .args .flow) below .numbers), fit .known .offset (start .args .flow) below),
+    )
 
 returns-3 : tie.Need-returns-3
 returns-3 c =
-    let second = c .before in
+    let second = c .before .before in
     let read = second .before .before in
     rw (
       lt-ltb _ _ (read .before .before .if1 .left),
@@ -42,4 +57,4 @@ returns-3 c =
 pub packet-fits-spec : {M : Type 1} → statement M
 packet-fits-spec =
     tie.close (tie.spec (λ c. search needs) returns (λ c κs. search needs) (λ c κs. search needs) (λ c κs. search needs) returns-2
-    is-placed-requires returns-3)
+    offset-read offset-wide is-placed-requires returns-3)

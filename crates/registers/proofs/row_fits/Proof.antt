@@ -13,10 +13,10 @@ use Rattle.registers.proofs.row_fits.Statement.{statement}
 use Rattle.registers.proofs.row_fits.Tie as tie
 
 abbrev Inv-loop : tie.InvT-loop
-Inv-loop w y sx x₀ x = (x ≤ sx) × ((sx ≡ sxIn w) × (allBelow x (λ x. cellFits w x y) ≡ true))
+Inv-loop w offsets y sx x₀ x = (x ≤ sx) × ((sx ≡ sxIn w) × (allBelow x (λ x. cellFits w x y) ≡ true))
 
 abbrev μ-loop : tie.MeasureT-loop
-μ-loop w y sx x₀ x = sx - x
+μ-loop w offsets y sx x₀ x = sx - x
 
 returns : tie.Need-returns Inv-loop μ-loop
 returns c =
@@ -28,11 +28,11 @@ loop-again c =
 
 returns-2 : tie.Need-returns-2 Inv-loop μ-loop
 returns-2 c =
-    let e : c .before .loop .x ≡ sxIn (c .before .before .before .before .args .w .now) = omega arith in
+    let e : c .before .loop .x ≡ sxIn (c .before .before .before .before .before .args .w .now) = omega arith in
     sym (rw e at (c .before .loop .inv .1 .1))
 
 pub row-fits-spec : {M : Type 1} → statement M
 row-fits-spec =
     tie.close (tie.spec Inv-loop μ-loop (λ c. search needs) (λ c. (omega arith, (omega arith, all-none _)))
-    (λ c κs. record { fit = c .before .before .before .before .pre .0; column = omega arith; row = c .before .before .before .before .pre .1 })
-    returns (λ c. omega (arith, c .before .before .before .before .shared-slice-known2 .given 0)) (λ c. omega arith) loop-again returns-2)
+    (λ c κs. let start = c .before .before .before .before .before in record { fit = start .pre .0; column = omega arith; row = start .pre .1 })
+    returns (λ c. omega (arith, c .before .before .before .before .shared-slice-known3 .given 0)) (λ c. omega arith) loop-again returns-2)

@@ -13,10 +13,10 @@ use Rattle.registers.proofs.rows_fit.Statement.{statement}
 use Rattle.registers.proofs.rows_fit.Tie as tie
 
 abbrev Inv-loop : tie.InvT-loop
-Inv-loop w sy y₀ y = (y ≤ sy) × ((sy ≡ syIn w) × (allBelow y (λ y. allBelow (sxIn w) (λ x. cellFits w x y)) ≡ true))
+Inv-loop w offsets sy y₀ y = (y ≤ sy) × ((sy ≡ syIn w) × (allBelow y (λ y. allBelow (sxIn w) (λ x. cellFits w x y)) ≡ true))
 
 abbrev μ-loop : tie.MeasureT-loop
-μ-loop w sy y₀ y = sy - y
+μ-loop w offsets sy y₀ y = sy - y
 
 returns : tie.Need-returns Inv-loop μ-loop
 returns c =
@@ -28,11 +28,11 @@ loop-again c =
 
 returns-2 : tie.Need-returns-2 Inv-loop μ-loop
 returns-2 c =
-    let e : c .before .loop .y ≡ syIn (c .before .before .before .before .args .w .now) = omega arith in
+    let e : c .before .loop .y ≡ syIn (c .before .before .before .before .before .args .w .now) = omega arith in
     sym (rw e at (c .before .loop .inv .1 .1))
 
 pub rows-fit-spec : {M : Type 1} → statement M
 rows-fit-spec =
     tie.close (tie.spec Inv-loop μ-loop (λ c. search needs) (λ c. (omega arith, (omega arith, all-none _)))
-    (λ c κs. (c .before .before .before .before .pre, omega arith)) returns
-    (λ c. omega (arith, c .before .before .before .before .shared-slice-known2 .given 1)) (λ c. omega arith) loop-again returns-2)
+    (λ c κs. (c .before .before .before .before .before .pre, omega arith)) returns
+    (λ c. omega (arith, c .before .before .before .before .shared-slice-known3 .given 1)) (λ c. omega arith) loop-again returns-2)

@@ -3,10 +3,9 @@ use mathlib.Core.Bool.{true, cond, not}
 use mathlib.Core.List.{List}
 use mathlib.Core.Path.{_≡_}
 use Prim.Native.Nat.{ℕ}
-use Rattle.laws.proofs.Bounded.{all-at}
-use Rattle.state.specs.Forms.{headerFits, flowFits, restFits, stateNumber}
+use Rattle.state.specs.Forms.{headerFits, restFits, stateNumber}
 use Rattle.state.specs.Facts.{Headed}
-use Rattle.state.proofs.Forms.{header-facts, flow-facts}
+use Rattle.state.proofs.Forms.{header-facts}
 use borrow.Author.Tests.{lt-ltb, le-ltb}
 use Rattle.laws.proofs.Cases.{told-not, told-not′}
 use borrow.Author.Needs.{needs}
@@ -46,35 +45,12 @@ rest c =
     rw (le-ltb _ _ (second .before .before .if1 .left), header second, le-ltb _ _ (headed c .long))
 
 returns-4 : tie.Need-returns-4
-unfolding restFits
-returns-4 c = rw (rest (c .before .before), told-not (c .before .flows-fit .ensures) (c .if4 .taken))
-
-rows-fit-requires : tie.Need-rows-fit-requires
-rows-fit-requires c κs =
-    let all = told-not′ (c .before .flows-fit .ensures) (c .if4 .left) in
-    record { headed = headed (c .before .before); flow = λ f l. flow-facts _ f (all-at (flowFits _) _ all f l) }
+returns-4 c = rw (rest (c .before .before), told-not (c .before .rest-fits .ensures) (c .if4 .taken))
 
 returns-5 : tie.Need-returns-5
-unfolding restFits
-returns-5 c =
-    let fourth = c .before .before in
-    rw (
-      rest (fourth .before .before),
-      told-not′ (fourth .before .flows-fit .ensures) (fourth .if4 .left),
-      told-not (c .before .rows-fit .ensures) (c .if5 .taken),
-    )
-
-returns-6 : tie.Need-returns-6
-unfolding restFits
-returns-6 c =
-    let fourth = c .before .before in
-    rw (
-      rest (fourth .before .before),
-      told-not′ (fourth .before .flows-fit .ensures) (fourth .if4 .left),
-      told-not′ (c .before .rows-fit .ensures) (c .if5 .left),
-    )
+returns-5 c = rw (rest (c .before .before), told-not′ (c .before .rest-fits .ensures) (c .if4 .left))
 
 pub state-number-spec : {M : Type 1} → statement M
 state-number-spec =
     tie.close (tie.spec returns (λ c κs. search needs) returns-2 (λ c κs. (c .before .before .if1 .left, header-facts _ (header c)))
-    returns-3 (λ c κs. headed c) returns-4 rows-fit-requires returns-5 returns-6)
+    returns-3 (λ c κs. headed c) returns-4 returns-5)

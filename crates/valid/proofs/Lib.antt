@@ -1,0 +1,2 @@
+-- The law of the flows' offsets, beside the functions' proofs.
+pub mod Offsets
