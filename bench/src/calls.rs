@@ -2,7 +2,7 @@
 
 use crate::loads::{Case, Load, SIZES, case};
 use crate::plain::Plain;
-use crate::times::{alternate, print_row};
+use crate::times::{Sides, print_row};
 use second::host::{Bounds, Engine};
 use second::recent::Record;
 use std::hint::black_box;
@@ -17,18 +17,19 @@ fn cases(loads: &[Load]) -> Vec<Case> {
 }
 
 /// Window of each flow, and the bounds of the whole listing.
-pub fn bounds(archive: &impl Bounds) {
+pub fn bounds(sides: Sides, first: &impl Bounds, second: &impl Bounds) {
+    sides.print_header();
     for case in cases(&[Load::Light, Load::Climbing, Load::Saturated]) {
         let flows = case.flows;
         print_row(
             "window",
             &case,
-            alternate(flows, || windows(&Plain, &case), || windows(archive, &case)),
+            sides.alternate(flows, || windows(first, &case), || windows(second, &case)),
         );
         print_row(
             "bounds",
             &case,
-            alternate(1, || all_bounds(&Plain, &case), || all_bounds(archive, &case)),
+            sides.alternate(1, || all_bounds(first, &case), || all_bounds(second, &case)),
         );
     }
 }
@@ -47,35 +48,40 @@ fn all_bounds(host: &impl Bounds, case: &Case) {
 }
 
 /// Step, offer, recent flights, reset and write.
-pub fn engine(archive: &impl Engine) {
+pub fn engine(sides: Sides, first: &impl Engine, second: &impl Engine) {
+    sides.print_header();
     for case in cases(&[Load::Light, Load::Saturated]) {
         let state = case.state();
         print_row(
             "step",
             &case,
-            alternate(BATCH, steps(&Plain, &case, &state), steps(archive, &case, &state)),
+            sides.alternate(BATCH, steps(first, &case, &state), steps(second, &case, &state)),
         );
         print_row(
             "offer",
             &case,
-            alternate(BATCH, offers(&Plain, &case, &state), offers(archive, &case, &state)),
+            sides.alternate(BATCH, offers(first, &case, &state), offers(second, &case, &state)),
         );
         for (name, last) in [("recent16", 16), ("recent 4", 4)] {
             print_row(
                 name,
                 &case,
-                alternate(
+                sides.alternate(
                     BATCH,
-                    feeds(&Plain, &case, &state, last),
-                    feeds(archive, &case, &state, last),
+                    feeds(first, &case, &state, last),
+                    feeds(second, &case, &state, last),
                 ),
             );
         }
-        print_row("reset", &case, alternate(BATCH, resets(&Plain, &case), resets(archive, &case)));
+        print_row(
+            "reset",
+            &case,
+            sides.alternate(BATCH, resets(first, &case), resets(second, &case)),
+        );
         print_row(
             "write",
             &case,
-            alternate(BATCH, writes(&Plain, &case, &state), writes(archive, &case, &state)),
+            sides.alternate(BATCH, writes(first, &case, &state), writes(second, &case, &state)),
         );
     }
 }

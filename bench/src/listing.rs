@@ -2,7 +2,7 @@
 
 use crate::loads::{Load, SIZES, case};
 use crate::plain::Plain;
-use crate::times::{alternate, print_header, print_row};
+use crate::times::{PLAIN_AND_ARCHIVE, print_row};
 use second::host::Bounds;
 use std::io::{Read, Write, stdin, stdout};
 use std::process::{Command, Stdio};
@@ -40,14 +40,14 @@ pub fn text(file: &[u8]) -> String {
 /// Starting the program, handing it a plan and reading what it prints.
 pub fn time(program: &str) {
     let this = std::env::current_exe().unwrap();
-    print_header();
+    PLAIN_AND_ARCHIVE.print_header();
     for (size, flows) in SIZES {
         for load in [Load::Light, Load::Climbing, Load::Saturated] {
             let case = case(size, flows, load);
             let plain = || run(Command::new(&this).arg("plain-listing"), &case.file);
             let proved = || run(&mut Command::new(program), &case.file);
             assert_eq!(plain(), proved(), "the listings differ");
-            print_row("listing", &case, alternate(1, || drop(plain()), || drop(proved())));
+            print_row("listing", &case, PLAIN_AND_ARCHIVE.alternate(1, || drop(plain()), || drop(proved())));
         }
     }
 }

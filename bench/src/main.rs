@@ -1,5 +1,7 @@
 //! Times the archive beside plain Rust, alternating in one run. See USAGE.
 
+#[cfg(feature = "before")]
+mod before;
 #[cfg_attr(not(all(feature = "bounds", feature = "engine")), allow(dead_code))]
 mod calls;
 #[cfg(feature = "engine")]
@@ -15,9 +17,12 @@ use plain::Plain;
 use second::compare;
 use second::compare::parts::{self, Extent};
 use std::process::exit;
+#[cfg(any(feature = "bounds", feature = "engine"))]
+use times::PLAIN_AND_ARCHIVE;
 
 const USAGE: &str =
     "usage: bench bounds|engine          times the archive's calls (--features bounds, engine)
+       bench before                 times it beside another archive (--features before)
        bench desk PROGRAM           times a million offers through the desk (--features engine)
        bench listing PROGRAM        times the listing program
        bench agree                  compares plain Rust with the second simulator";
@@ -30,15 +35,11 @@ fn main() {
     }
     match words[..] {
         #[cfg(feature = "bounds")]
-        ["bounds"] => {
-            times::print_header();
-            calls::bounds(&second::archive::Archive);
-        }
+        ["bounds"] => calls::bounds(PLAIN_AND_ARCHIVE, &Plain, &second::archive::Archive),
         #[cfg(feature = "engine")]
-        ["engine"] => {
-            times::print_header();
-            calls::engine(&second::archive::Archive);
-        }
+        ["engine"] => calls::engine(PLAIN_AND_ARCHIVE, &Plain, &second::archive::Archive),
+        #[cfg(feature = "before")]
+        ["before"] => before::time(),
         #[cfg(feature = "engine")]
         ["desk", program] if !program.starts_with("--") => {
             desk::time(program, &second::archive::Archive)
@@ -47,7 +48,7 @@ fn main() {
         ["plain-listing"] => listing::plain(),
         ["agree"] => agree(),
         [part @ ("listing" | "desk")] => wrong(&format!("the part {part} takes a program")),
-        ["bounds" | "engine" | "agree", word, ..]
+        ["bounds" | "engine" | "before" | "agree", word, ..]
         | ["listing" | "desk", _, word, ..]
         | ["listing" | "desk", word] => wrong(&format!("there is no option '{word}'")),
         [part, ..] => wrong(&format!("there is no part '{part}'")),
@@ -60,6 +61,7 @@ fn is_left_out(part: &str) -> bool {
     match part {
         "bounds" => !cfg!(feature = "bounds"),
         "engine" | "desk" => !cfg!(feature = "engine"),
+        "before" => !cfg!(feature = "before"),
         _ => false,
     }
 }

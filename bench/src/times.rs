@@ -3,28 +3,61 @@
 use crate::loads::Case;
 use std::time::{Duration, Instant};
 
-/// Pairs of turns: plain, then the archive. Others share the machine, so the best turn of each
+/// Two engines side by side: what each is called, and what is done before a turn of the first (0)
+/// or the second (1).
+#[derive(Clone, Copy)]
+pub struct Sides {
+    pub names: [&'static str; 2],
+    pub before_turn: fn(usize),
+}
+
+pub const PLAIN_AND_ARCHIVE: Sides = Sides { names: ["plain", "archive"], before_turn: |_| () };
+
+/// Pairs of turns: the first engine, then the second. Others share the machine, so the best turn of each
 /// gives its time, and the median of the pairs' ratios the ratio.
 const PAIRS: usize = 41;
 /// The least time of a turn: the work is done as often as that takes.
 const LEAST_TURN: Duration = Duration::from_micros(500);
 
-/// Nanoseconds per call, and the archive's share of plain.
+/// Nanoseconds per call of each, and the second's share of the first.
 pub struct Times {
-    plain: f64,
-    archive: f64,
+    first: f64,
+    second: f64,
     ratio: f64,
 }
 
-/// The times of two works. Each does a batch of so many calls.
-pub fn alternate(calls: usize, mut plain: impl FnMut(), mut archive: impl FnMut()) -> Times {
-    let mut pairs = [(); PAIRS]
-        .map(|()| [&mut plain as &mut dyn FnMut(), &mut archive].map(|work| turn(calls, work)));
-    let best = |which: usize| pairs.iter().map(|pair| pair[which]).fold(f64::INFINITY, f64::min);
-    let (plain, archive) = (best(0), best(1));
-    pairs.sort_by(|a, b| (a[1] / a[0]).total_cmp(&(b[1] / b[0])));
-    let [middle_plain, middle_archive] = pairs[PAIRS / 2];
-    Times { plain, archive, ratio: middle_archive / middle_plain }
+impl Sides {
+    /// The times of two works. Each does a batch of so many calls.
+    pub fn alternate(
+        self,
+        calls: usize,
+        mut first: impl FnMut(),
+        mut second: impl FnMut(),
+    ) -> Times {
+        let mut pair = || {
+            let works: [&mut dyn FnMut(); 2] = [&mut first, &mut second];
+            let mut side = 0;
+            works.map(|work| {
+                (self.before_turn)(side);
+                side += 1;
+                turn(calls, work)
+            })
+        };
+        let mut pairs = [(); PAIRS].map(|()| pair());
+        let best =
+            |which: usize| pairs.iter().map(|pair| pair[which]).fold(f64::INFINITY, f64::min);
+        let (first, second) = (best(0), best(1));
+        pairs.sort_by(|a, b| (a[1] / a[0]).total_cmp(&(b[1] / b[0])));
+        let [middle_first, middle_second] = pairs[PAIRS / 2];
+        Times { first, second, ratio: middle_second / middle_first }
+    }
+
+    pub fn print_header(self) {
+        let [first, second] = self.names.map(|name| format!("{name} ns"));
+        println!(
+            "call     torus  flows  load      {first:>10}  {second:>10}  ratio  {second} per router+flow"
+        );
+    }
 }
 
 /// Nanoseconds per call in one turn.
@@ -41,19 +74,13 @@ fn turn(calls: usize, work: &mut dyn FnMut()) -> f64 {
     }
 }
 
-pub fn print_header() {
-    println!(
-        "call     torus  flows  load        plain ns  archive ns  ratio  archive ns per router+flow"
-    );
-}
-
 pub fn print_row(call: &str, case: &Case, times: Times) {
     let Case { size, flows, load, .. } = case;
-    let Times { plain, archive, ratio } = times;
+    let Times { first, second, ratio } = times;
     let torus = format!("{size}x{size}");
     let load = format!("{load:?}").to_lowercase();
-    let share = archive / (case.routers() + flows) as f64;
+    let share = second / (case.routers() + flows) as f64;
     println!(
-        "{call:8} {torus:6} {flows:5}  {load:9} {plain:10.0}  {archive:10.0}  {ratio:5.2}  {share:10.2}"
+        "{call:8} {torus:6} {flows:5}  {load:9} {first:10.0}  {second:10.0}  {ratio:5.2}  {share:10.2}"
     );
 }

@@ -37,7 +37,7 @@ impl Flow {
         self.yd < sy
     }
 
-    // ΔX, on a torus of sx columns.
+    // ΔX = (xd − xs) mod Sx. With Sx more, the difference doesn't pass below 0.
     pub fn offset_x(self, sx: u32) -> u32
         requires { ⌜ (self .xs < sx) × (self .xd < sx) ⌝ }
         requires { ⌜ sx ≤ mostSize ⌝ }
@@ -46,7 +46,7 @@ impl Flow {
         (self.xd + sx - self.xs) % sx
     }
 
-    // ΔY, on a torus of sy rows.
+    // ΔY = (yd − ys) mod Sy, likewise.
     pub fn offset_y(self, sy: u32) -> u32
         requires { ⌜ (self .ys < sy) × (self .yd < sy) ⌝ }
         requires { ⌜ sy ≤ mostSize ⌝ }

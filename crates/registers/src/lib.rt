@@ -1,4 +1,4 @@
-// When the registers among a state's words are those of a state. Rests on place and state.
+// When the registers among a state's words are those of a state; `offsets` has ΔX of every flow. Rests on place and state.
 use place::Input;
 use state::Register;
 ghost use mathlib.Core.Bool.{_&&_};
@@ -118,7 +118,7 @@ fn is_idle(w: &[u32], at: usize) -> bool
     w[at] | w[at + state::REGISTER_SIZE] == 0
 }
 
-// Both registers of a router are those of a state.
+// Both registers of a router are those of a state. An idle router is looked at in one go.
 fn cell_fits(w: &[u32], offsets: &[u8], x: u32, y: u32) -> bool
     requires { ⌜ RouterOf (now w) (now offsets) x y ⌝ }
     ensures { λ r. ⌜ r ≡ cellFits (now (w .entry)) x y ⌝ }
