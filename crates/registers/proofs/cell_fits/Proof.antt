@@ -26,11 +26,11 @@ room c =
 returns : tie.Need-returns
 unfolding cellFits
 returns c =
-    let idle = c .before .before in
-    let at = idle .before .before in
+    let vacant = c .before .before in
+    let at = vacant .before .before in
     let a = at .before .before .before .before .before .args in
     let place = at .router-place .result in
-    let none = and-true _ _ (sym (idle .before .is-idle .ensures) ∙ idle .if1 .taken) in
+    let none = and-true _ _ (sym (vacant .before .is-vacant .ensures) ∙ vacant .if1 .taken) in
     rw (
       ← (at .router-place .ensures),
       empty-fits (a .w .now) (W (a .x) (a .y)) place (none .0),
@@ -66,4 +66,5 @@ pub cell-fits-spec : {M : Type 1} → statement M
 cell-fits-spec =
     tie.close (tie.spec (λ c. search needs) (λ c. search needs) (λ c. search needs) (λ c κs. search needs) (λ c κs. room c)
     (λ c κs. omega (arith, room (c .before .before))) (λ c. omega (arith, room (c .before .before .before)))
-    (λ c κs. omega (arith, room (c .before .before .before))) returns register-fits-requires returns-2 (λ c. omega (arith, room (c .before .before .before .before))) register-fits-requires-2 returns-3)
+    (λ c κs. omega (arith, room (c .before .before .before))) returns register-fits-requires returns-2
+    (λ c. omega (arith, room (c .before .before .before .before))) register-fits-requires-2 returns-3)
