@@ -47,7 +47,11 @@ pub fn time(program: &str) {
             let plain = || run(Command::new(&this).arg("plain-listing"), &case.file);
             let proved = || run(&mut Command::new(program), &case.file);
             assert_eq!(plain(), proved(), "the listings differ");
-            print_row("listing", &case, PLAIN_AND_ARCHIVE.alternate(1, || drop(plain()), || drop(proved())));
+            print_row(
+                "listing",
+                &case,
+                PLAIN_AND_ARCHIVE.alternate(1, || drop(plain()), || drop(proved())),
+            );
         }
     }
 }

@@ -2,7 +2,7 @@
 
 use second::calls;
 use second::host::{Bounds, returned, returned_window};
-use second::plan::{MOST_BYTES, Plan, read};
+use second::plan::{Flow, MOST_BYTES, Plan, read};
 use second::slips::Slip;
 use second::window::{flight_call, window_call};
 
@@ -67,7 +67,39 @@ pub fn slipped(slip: Slip) -> impl Fn(&mut Given) {
     }
 }
 
+/// The flight bound with other offsets.
+fn flown(given: &mut Given, offsets: fn(&Plan, usize) -> (i64, i64)) {
+    if let ("flight", Some((plan, f))) = (given.call, given.accepted()) {
+        let (dx, dy) = offsets(&plan, f);
+        given.answer = (dx + dy + dy * plan.sx + 2) as u64;
+    }
+}
+
+/// The remainder of a 32-bit difference that wraps where it passes below 0: right only where the
+/// size is a power of two.
+fn wrapped(from: i64, to: i64, size: i64) -> i64 {
+    ((to as u32).wrapping_sub(from as u32) % size as u32) as i64
+}
+
 pub const FAULTS: &[(&str, fn(&mut Given))] = &[
+    ("columns of a difference that wraps", |given| {
+        flown(given, |plan, f| (wrapped(plan.flows[f].xs, plan.flows[f].xd, plan.sx), plan.dy(f)))
+    }),
+    ("rows of a difference that wraps", |given| {
+        flown(given, |plan, f| (plan.dx(f), wrapped(plan.flows[f].ys, plan.flows[f].yd, plan.sy)))
+    }),
+    ("columns counted round Sy", |given| {
+        flown(given, |plan, f| {
+            let Flow { xs, xd, .. } = plan.flows[f];
+            ((xd - xs).rem_euclid(plan.sy), plan.dy(f))
+        })
+    }),
+    ("rows counted northward", |given| {
+        flown(given, |plan, f| {
+            let Flow { ys, yd, .. } = plan.flows[f];
+            (plan.dx(f), (ys - yd).rem_euclid(plan.sy))
+        })
+    }),
     ("Sy charged for a deflection", |given| {
         if let ("flight", Some((plan, f))) = (given.call, given.accepted()) {
             given.answer = (plan.dx(f) + plan.dy(f) + plan.dy(f) * plan.sy + 2) as u64;

@@ -2,6 +2,7 @@
 
 use super::{Call, Tally, plans};
 use crate::host::{Bounds, returned_window};
+use crate::plan::{Flow, Plan};
 use crate::random::{self, Random};
 use crate::slips::refuted;
 use crate::{calls, window};
@@ -28,8 +29,27 @@ fn notes_and_flight(host: &impl Bounds, tally: &mut Tally, file: &[u8], flow: u3
     tally.answer(call, window::flight_call(file, flow), host.flight(file, flow));
 }
 
-/// The plans that refute a slipped window, and every boundary, once.
+/// Every ΔX and ΔY of every size: flows between all pairs of columns, then between all pairs of
+/// rows, on tori that are no squares.
+fn offsets(host: &impl Bounds, tally: &mut Tally) {
+    for size in 1..=16 {
+        let other = 17 - size;
+        let pairs = || (0..size * size).map(|pair| (pair / size, pair % size));
+        let flow = |xs, ys, xd, yd| Flow { xs, ys, xd, yd, period: 9, burst: 1 };
+        let across = pairs().map(|(from, to)| flow(from, 0, to, 0)).collect();
+        let down = pairs().map(|(from, to)| flow(0, from, 0, to)).collect();
+        for plan in
+            [Plan { sx: size, sy: other, flows: across }, Plan { sx: other, sy: size, flows: down }]
+        {
+            let file = plan.file(&[]);
+            (0..plan.flows.len() as u32).for_each(|f| notes_and_flight(host, tally, &file, f));
+        }
+    }
+}
+
+/// Every offset, the plans that refute a slipped window, and every boundary, once.
 pub fn boundaries(host: &impl Bounds, tally: &mut Tally) {
+    offsets(host, tally);
     for plan in refuted().into_iter().map(|row| row.plan) {
         for flow in 0..=plan.flows.len() as u32 {
             all_three(host, tally, &plan.file(&[]), flow);
