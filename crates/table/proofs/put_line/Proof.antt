@@ -3,7 +3,7 @@ use borrow.Author.Needs.{needs}
 use mathlib.Core.Path.{_≡_, sym, _∙_}
 use native.Mathlib.Omega.{arith}
 use Rattle.flow.specs.Plan.{flowAt}
-use Rattle.flow.specs.Ranges.{FlowOk}
+use Rattle.flow.specs.Ranges.{FlowOk, PlanOk}
 use Rattle.file.specs.Layout.{planOf}
 use Rattle.plan.proofs.Ranges.{Bytes}
 use Rattle.bounds.proofs.Opened.{opened-ok, opened-count, opened-sx}
@@ -12,18 +12,23 @@ use Rattle.table.proofs.Rows.{window-fits}
 use Rattle.table.proofs.put_line.Statement.{statement}
 use Rattle.table.proofs.put_line.Tie as tie
 
--- the flow is one of the plan's, in range
+-- the plan's numbers are in range
+plan-fits : (c : tie.After-shared-slice-known) → PlanOk (planOf (c .before .args .file .now))
+plan-fits c =
+    let bytes : Bytes (c .before .args .file .now) = λ i. omega (arith, c .shared-slice-known .given i) in
+    opened-ok _ _ (c .before .pre .0 .opened) bytes
+
+-- the flow is one of the plan's
 in-range : (c : tie.After-shared-slice-known) → let p = planOf (c .before .args .file .now) in FlowOk (p .sx) (p .sy) (flowAt p (c .before .args .f))
 in-range c =
     let k = c .before .pre .0 in
-    let bytes : Bytes (c .before .args .file .now) = λ i. omega (arith, c .shared-slice-known .given i) in
-    opened-ok _ _ (k .opened) bytes .flow-ok _ (rw (opened-count _ _ (k .opened)) (k .below))
+    plan-fits c .flow-ok _ (rw (opened-count _ _ (k .opened)) (k .below))
 
 port-requires : tie.Need-port-requires
 port-requires c κs =
     let s = c .before .before .before .before in
     let flow = in-range s in
-    rw (c .before .before .flow-at .ensures, ← (opened-sx _ _ (s .before .pre .0 .opened))) (flow .xs-on, flow .xd-on)
+    rw (c .before .before .flow-at .ensures, ← (opened-sx _ _ (s .before .pre .0 .opened))) ((flow .xs-on, flow .xd-on), plan-fits s .sx-most)
 
 put-row-requires : tie.Need-put-row-requires
 put-row-requires c κs =
