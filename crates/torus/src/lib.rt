@@ -3,7 +3,8 @@ ghost use mathlib.Core.Path.{_≡_};
 ghost use Prim.Native.Nat.{_<_};
 ghost use Rattle.torus.specs.Axis.{offset, next, lap};
 
-// How far `to` lies after `from`, going round: 01's (to − from) mod size.
+// How far `to` lies after `from`, going round: 01's (to − from) mod size, by one comparison. For r, j and laps; ΔX and ΔY are
+// flow's.
 pub fn offset(size: u32, from: u32, to: u32) -> u32
     requires { ⌜ (from < size) × (to < size) ⌝ }
     ensures { λ r. ⌜ r ≡ offset size from to ⌝ }
