@@ -1,4 +1,4 @@
-// When the registers among a state's words are those of a state; `offsets` has ΔX of every flow. Rests on place and state.
+// When the registers among a state's words are those of a state; `dxs` has ΔX of every flow. Rests on place and state.
 use place::Input;
 use state::Register;
 ghost use mathlib.Core.Bool.{_&&_};
@@ -70,7 +70,7 @@ fn is_placed(
 // The packet of a register is that of a state.
 fn packet_fits(
     w: &[u32],
-    offsets: &[u8],
+    dxs: &[u8],
     input: Input,
     x: u32,
     y: u32,
@@ -79,7 +79,7 @@ fn packet_fits(
     entry: u32,
     d: u32,
 ) -> bool
-    requires { ⌜ RouterOf (now w) (now offsets) x y ⌝ }
+    requires { ⌜ RouterOf (now w) (now dxs) x y ⌝ }
     ensures { λ r. ⌜ r ≡ contentsFit (now (w .entry)) (placeOf input x y) 0 (Packet flow serial entry d) ⌝ }
 {
     if w[state::FLOWS] <= flow {
@@ -90,12 +90,12 @@ fn packet_fits(
     if !in_range(serial, state::entered_in(w, at)) {
         return false;
     }
-    is_placed(w, input, x, y, at, offsets[number] as u32, entry, d)
+    is_placed(w, input, x, y, at, dxs[number] as u32, entry, d)
 }
 
 // The four words of a register are those of a state.
-fn register_fits(w: &[u32], offsets: &[u8], input: Input, x: u32, y: u32, at: usize) -> bool
-    requires { ⌜ RouterOf (now w) (now offsets) x y ⌝ }
+fn register_fits(w: &[u32], dxs: &[u8], input: Input, x: u32, y: u32, at: usize) -> bool
+    requires { ⌜ RouterOf (now w) (now dxs) x y ⌝ }
     requires { ⌜ at + registerSize ≤ length (now w) ⌝ }
     ensures { λ r. ⌜ r ≡ registerFits (now (w .entry)) (placeOf input x y) at ⌝ }
 {
@@ -106,7 +106,7 @@ fn register_fits(w: &[u32], offsets: &[u8], input: Input, x: u32, y: u32, at: us
             serial,
             entry,
             deflections,
-        } => packet_fits(w, offsets, input, x, y, flow, serial, entry, deflections),
+        } => packet_fits(w, dxs, input, x, y, flow, serial, entry, deflections),
     }
 }
 
@@ -119,29 +119,29 @@ fn is_vacant(w: &[u32], at: usize) -> bool
 }
 
 // Both registers of a router are those of a state. A vacant router is looked at in one go.
-fn cell_fits(w: &[u32], offsets: &[u8], x: u32, y: u32) -> bool
-    requires { ⌜ RouterOf (now w) (now offsets) x y ⌝ }
+fn cell_fits(w: &[u32], dxs: &[u8], x: u32, y: u32) -> bool
+    requires { ⌜ RouterOf (now w) (now dxs) x y ⌝ }
     ensures { λ r. ⌜ r ≡ cellFits (now (w .entry)) x y ⌝ }
 {
     let at = state::router_place(w[state::FLOWS] as usize, w[state::SX], x, y);
     if is_vacant(w, at) {
         return four_zero(w, at) & four_zero(w, at + state::REGISTER_SIZE);
     }
-    if !register_fits(w, offsets, Input::West, x, y, at) {
+    if !register_fits(w, dxs, Input::West, x, y, at) {
         return false;
     }
-    register_fits(w, offsets, Input::North, x, y, at + state::REGISTER_SIZE)
+    register_fits(w, dxs, Input::North, x, y, at + state::REGISTER_SIZE)
 }
 
 // All registers of a row are those of a state.
-fn row_fits(w: &[u32], offsets: &[u8], y: u32) -> bool
-    requires { ⌜ FlowsFit (now w) (now offsets) ⌝ }
+fn row_fits(w: &[u32], dxs: &[u8], y: u32) -> bool
+    requires { ⌜ FlowsFit (now w) (now dxs) ⌝ }
     requires { ⌜ y < syIn (now w) ⌝ }
     ensures { λ r. ⌜ r ≡ allBelow (sxIn (now (w .entry))) (λ x. cellFits (now (w .entry)) x y) ⌝ }
 {
     let sx = w[state::SX];
     for x in 0..sx {
-        if !cell_fits(w, offsets, x, y) {
+        if !cell_fits(w, dxs, x, y) {
             return false;
         }
     }
@@ -149,13 +149,13 @@ fn row_fits(w: &[u32], offsets: &[u8], y: u32) -> bool
 }
 
 // All registers are those of a state, with ΔX of every flow at hand.
-pub fn rows_fit(w: &[u32], offsets: &[u8]) -> bool
-    requires { ⌜ FlowsFit (now w) (now offsets) ⌝ }
+pub fn rows_fit(w: &[u32], dxs: &[u8]) -> bool
+    requires { ⌜ FlowsFit (now w) (now dxs) ⌝ }
     ensures { λ r. ⌜ r ≡ allBelow (syIn (now (w .entry))) (λ y. allBelow (sxIn (now (w .entry))) (λ x. cellFits (now (w .entry)) x y)) ⌝ }
 {
     let sy = w[state::SY];
     for y in 0..sy {
-        if !row_fits(w, offsets, y) {
+        if !row_fits(w, dxs, y) {
             return false;
         }
     }

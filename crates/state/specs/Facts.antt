@@ -48,19 +48,19 @@ pub record FlowFacts (w : List ℕ) (f : ℕ) : Type 0 where
   pub tally : TallyFacts (clockIn w) (flowIn w (flowPlace f)) (tallyIn w (flowPlace f))
 
 -- a list has ΔX of each of the first n flows, by its number, and room for all flows
-pub record OffsetsIn (w : List ℕ) (n : ℕ) (offsets : List ℕ) : Type 0 where
-  pub room : countIn w ≤ length offsets
-  pub offset : (f : ℕ) → f < n → getD offsets f 0 ≡ ΔX (sxIn w) (flowIn w (flowPlace f))
+pub record ColumnOffsets (w : List ℕ) (n : ℕ) (dxs : List ℕ) : Type 0 where
+  pub room : countIn w ≤ length dxs
+  pub offset : (f : ℕ) → f < n → getD dxs f 0 ≡ ΔX (sxIn w) (flowIn w (flowPlace f))
 
 -- every flow of such words fits, and its ΔX is at hand
-pub record FlowsFit (w offsets : List ℕ) : Type 0 where
+pub record FlowsFit (w dxs : List ℕ) : Type 0 where
   pub headed : Headed w
   pub flow : (f : ℕ) → f < countIn w → FlowFacts w f
-  pub known : OffsetsIn w (countIn w) offsets
+  pub known : ColumnOffsets w (countIn w) dxs
 
 -- of such words, the router in column x and row y
-pub record RouterOf (w offsets : List ℕ) (x y : ℕ) : Type 0 where
-  pub fit : FlowsFit w offsets
+pub record RouterOf (w dxs : List ℕ) (x y : ℕ) : Type 0 where
+  pub fit : FlowsFit w dxs
   pub column : x < sxIn w
   pub row : y < syIn w
 

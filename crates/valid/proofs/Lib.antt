@@ -1,2 +1,2 @@
--- The law of the flows' offsets, beside the functions' proofs.
-pub mod Offsets
+-- The law of the flows' ΔX at hand, beside the functions' proofs.
+pub mod ColumnOffsets

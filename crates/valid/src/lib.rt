@@ -10,7 +10,7 @@ ghost use Rattle.flow.specs.Offsets.{ΔX};
 ghost use Rattle.state.specs.Layout.{headerSize, flowPlace};
 ghost use Rattle.state.specs.Read.{sxIn, countIn, flowIn};
 ghost use Rattle.state.specs.Forms.{headerFits, numbersFit, tallyFits, flowFits, restFits, sizeIn, stateNumber};
-ghost use Rattle.state.specs.Facts.{HeaderFacts, Headed, FlowOf, FlowFacts, OffsetsIn};
+ghost use Rattle.state.specs.Facts.{HeaderFacts, Headed, FlowOf, FlowFacts, ColumnOffsets};
 
 // The most of a flow's period, and of its burst.
 const MOST_PERIOD: u32 = 65535;
@@ -75,7 +75,7 @@ fn flow_fits(w: &[u32], f: usize) -> bool
 }
 
 // ΔX of flow f, which fits a byte.
-fn offset_of(w: &[u32], f: usize) -> u8
+fn dx_of(w: &[u32], f: usize) -> u8
     requires { ⌜ (FlowOf (now w) f) × (FlowFacts (now w) f) ⌝ }
     ensures { λ r. ⌜ r ≡ ΔX (sxIn (now (w .entry))) (flowIn (now (w .entry)) (flowPlace f)) ⌝ }
 {
@@ -84,17 +84,17 @@ fn offset_of(w: &[u32], f: usize) -> u8
 }
 
 // Every flow's words are those of a state. Then ΔX of each is noted, by its number.
-fn flows_fit(w: &[u32], offsets: &mut [u8]) -> bool
-    requires { ⌜ (Headed (now w)) × (countIn (now w) ≤ length (now offsets)) ⌝ }
+fn flows_fit(w: &[u32], dxs: &mut [u8]) -> bool
+    requires { ⌜ (Headed (now w)) × (countIn (now w) ≤ length (now dxs)) ⌝ }
     ensures { λ r. ⌜ r ≡ allBelow (countIn (now (w .entry))) (flowFits (now (w .entry))) ⌝ }
-    ensures { λ r. ⌜ (r ≡ true → OffsetsIn (now (w .entry)) (countIn (now (w .entry))) (now (offsets .exit))) ⌝ }
+    ensures { λ r. ⌜ (r ≡ true → ColumnOffsets (now (w .entry)) (countIn (now (w .entry))) (now (dxs .exit))) ⌝ }
 {
     let count = w[state::FLOWS] as usize;
     for f in 0..count {
         if !flow_fits(w, f) {
             return false;
         }
-        offsets[f] = offset_of(w, f);
+        dxs[f] = dx_of(w, f);
     }
     true
 }
@@ -104,11 +104,11 @@ fn rest_fits(w: &[u32]) -> bool
     requires { ⌜ Headed (now w) ⌝ }
     ensures { λ r. ⌜ r ≡ restFits (now (w .entry)) ⌝ }
 {
-    let mut offsets = [0u8; plan::MOST_FLOWS as usize];
-    if !flows_fit(w, &mut offsets) {
+    let mut dxs = [0u8; plan::MOST_FLOWS as usize];
+    if !flows_fit(w, &mut dxs) {
         return false;
     }
-    registers::rows_fit(w, &offsets)
+    registers::rows_fit(w, &dxs)
 }
 
 // The size that the header asks for.

@@ -13,10 +13,10 @@ use Rattle.registers.proofs.row_fits.Statement.{statement}
 use Rattle.registers.proofs.row_fits.Tie as tie
 
 abbrev Inv-loop : tie.InvT-loop
-Inv-loop w offsets y sx x₀ x = (x ≤ sx) × ((sx ≡ sxIn w) × (allBelow x (λ x. cellFits w x y) ≡ true))
+Inv-loop w dxs y sx x₀ x = (x ≤ sx) × ((sx ≡ sxIn w) × (allBelow x (λ x. cellFits w x y) ≡ true))
 
 abbrev μ-loop : tie.MeasureT-loop
-μ-loop w offsets y sx x₀ x = sx - x
+μ-loop w dxs y sx x₀ x = sx - x
 
 returns : tie.Need-returns Inv-loop μ-loop
 returns c =

@@ -13,10 +13,10 @@ use Rattle.registers.proofs.rows_fit.Statement.{statement}
 use Rattle.registers.proofs.rows_fit.Tie as tie
 
 abbrev Inv-loop : tie.InvT-loop
-Inv-loop w offsets sy y₀ y = (y ≤ sy) × ((sy ≡ syIn w) × (allBelow y (λ y. allBelow (sxIn w) (λ x. cellFits w x y)) ≡ true))
+Inv-loop w dxs sy y₀ y = (y ≤ sy) × ((sy ≡ syIn w) × (allBelow y (λ y. allBelow (sxIn w) (λ x. cellFits w x y)) ≡ true))
 
 abbrev μ-loop : tie.MeasureT-loop
-μ-loop w offsets sy y₀ y = sy - y
+μ-loop w dxs sy y₀ y = sy - y
 
 returns : tie.Need-returns Inv-loop μ-loop
 returns c =

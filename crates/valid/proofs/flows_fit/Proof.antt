@@ -1,4 +1,4 @@
--- `flows_fit`: the flows passed fit, and their offsets are noted.
+-- `flows_fit`: the flows passed fit, and ΔX of each is noted.
 use mathlib.Core.Bool.{true, false≢true}
 use mathlib.Core.Path.{_≡_, sym}
 use Prim.Native.Nat.{_≤_, _-_}
@@ -10,21 +10,21 @@ use Rattle.laws.proofs.Bounded.{all-none, all-more, all-fails}
 use borrow.Author.Needs.{needs}
 use Rattle.state.specs.Read.{countIn}
 use Rattle.state.specs.Forms.{flowFits}
-use Rattle.state.specs.Facts.{OffsetsIn}
+use Rattle.state.specs.Facts.{ColumnOffsets}
 use Rattle.state.proofs.Forms.{flow-facts}
-use Rattle.valid.proofs.Offsets.{offsets-none, offsets-more}
+use Rattle.valid.proofs.ColumnOffsets.{column-offsets-none, column-offsets-more}
 use Rattle.valid.proofs.flows_fit.Statement.{statement}
 use Rattle.valid.proofs.flows_fit.Tie as tie
 
 abbrev Inv-loop : tie.InvT-loop
-Inv-loop w offsets₀ count f₀ offsets f =
-    (f ≤ count) × ((count ≡ countIn w) × ((length offsets ≡ length offsets₀) × ((allBelow f (flowFits w) ≡ true) × OffsetsIn w f offsets)))
+Inv-loop w dxs₀ count f₀ dxs f =
+    (f ≤ count) × ((count ≡ countIn w) × ((length dxs ≡ length dxs₀) × ((allBelow f (flowFits w) ≡ true) × ColumnOffsets w f dxs)))
 
 abbrev μ-loop : tie.MeasureT-loop
-μ-loop w offsets₀ count f₀ offsets f = count - f
+μ-loop w dxs₀ count f₀ dxs f = count - f
 
 loop-holds : tie.Need-loop-holds Inv-loop μ-loop
-loop-holds c = (omega arith, (omega arith, (omega arith, (all-none _, offsets-none _ _ (c .before .before .before .pre .1)))))
+loop-holds c = (omega arith, (omega arith, (omega arith, (all-none _, column-offsets-none _ _ (c .before .before .before .pre .1)))))
 
 flow-fits-requires : tie.Need-flow-fits-requires Inv-loop μ-loop
 flow-fits-requires c κs = record { headed = c .before .before .before .before .before .pre .0; below = omega arith }
@@ -39,8 +39,8 @@ fits : (c : tie.Else1 Inv-loop μ-loop) → let turn = c .before .before .before
     flowFits (turn .before .before .before .before .args .w .now) (turn .loop .f) ≡ true
 fits c = told-not′ (c .before .flow-fits .ensures) (c .if1 .left)
 
-offset-of-requires : tie.Need-offset-of-requires Inv-loop μ-loop
-offset-of-requires c κs =
+dx-of-requires : tie.Need-dx-of-requires Inv-loop μ-loop
+dx-of-requires c κs =
     let turn = c .before .before .before in
     (record { headed = turn .before .before .before .before .pre .0; below = omega arith }, flow-facts _ _ (fits c))
 
@@ -53,7 +53,7 @@ loop-again c =
         turn .1 .0,
         (
           simp length-set (rest .0),
-          (all-more _ _ (rest .1 .0) (fits (c .before)), offsets-more _ _ _ _ (rest .1 .1) (omega arith) (c .offset-of .ensures)),
+          (all-more _ _ (rest .1 .0) (fits (c .before)), column-offsets-more _ _ _ _ (rest .1 .1) (omega arith) (c .dx-of .ensures)),
         ),
       ),
     )
@@ -67,5 +67,5 @@ returns-2 c =
 pub flows-fit-spec : {M : Type 1} → statement M
 flows-fit-spec =
     tie.close (tie.spec Inv-loop μ-loop (λ c. search needs) (λ c. search needs) loop-holds
-    flow-fits-requires (λ c. c .before .before .before .loop .inv .1 .1 .0) returns offset-of-requires (λ c. omega arith)
+    flow-fits-requires (λ c. c .before .before .before .loop .inv .1 .1 .0) returns dx-of-requires (λ c. omega arith)
     (λ c. omega arith) (λ c. omega arith) loop-again (λ c. c .before .loop .inv .1 .1 .0) returns-2)

@@ -1,4 +1,4 @@
--- `offset_of`: ΔX of what is read at the flow's place, on a torus of at most 16 columns.
+-- `dx_of`: ΔX of what is read at the flow's place, on a torus of at most 16 columns.
 use borrow.Author.Needs.{needs}
 use mathlib.Core.Path.{_≡_, ap, _∙_}
 use Prim.Native.Nat.{_≤_, _<_}
@@ -8,8 +8,8 @@ use Rattle.flow.specs.Offsets.{ΔX}
 use Rattle.flow.specs.Plan.{mostSize}
 use Rattle.state.specs.Layout.{flowPlace}
 use Rattle.state.specs.Read.{sxIn, flowIn}
-use Rattle.valid.proofs.offset_of.Statement.{statement}
-use Rattle.valid.proofs.offset_of.Tie as tie
+use Rattle.valid.proofs.dx_of.Statement.{statement}
+use Rattle.valid.proofs.dx_of.Tie as tie
 
 flow : (c : tie.After-flow-in) → let a = c .before .before .before .args in c .flow-in .result ≡ flowIn (a .w .now) (flowPlace (a .f))
 flow c = c .flow-in .ensures ∙ rw (c .before .flow-place .ensures)
@@ -32,6 +32,6 @@ returns c =
     let read = c .before .before in
     c .offset-x .ensures ∙ ap (ΔX (sxIn (read .before .before .before .args .w .now))) (flow read)
 
-pub offset-of-spec : {M : Type 1} → statement M
-offset-of-spec =
+pub dx-of-spec : {M : Type 1} → statement M
+dx-of-spec =
     tie.close (tie.spec (λ c κs. search needs) (λ c κs. search needs) (λ c. search needs) (λ c κs. columns (c .before)) cast-result returns)
