@@ -32,7 +32,7 @@ numbersFit sx sy f =
     && (leb 1 (f .period) && leb (f .period) mostPeriod)
     && (leb 1 (f .burst) && leb (f .burst) mostBurst)
 
--- tokens ≤ σ; count < P, and 0 when tokens = σ; waiting ≤ 65,535; entered ≤ clock
+-- tokens and count as the regulator has it; waiting ≤ 65,535; entered ≤ clock
 unfoldable pub tallyFits : (clock : ℕ) → Flow → Tally → Bool
 tallyFits clock f t =
     bucketFits (f .burst) (f .period) (t .bucket) && leb (t .waiting) mostWaiting && leb (t .entered) clock

@@ -13,7 +13,7 @@ use Rattle.window.specs.declared.Window.{Window}
 use Rattle.window.specs.declared.Window.the-variants.{At, Nothing}
 use Rattle.conflict.specs.Conflict.{conflict}
 
--- what g adds to I(t): σ + ⌊(t−1+J)/P⌋ if it conflicts with spread J
+-- what g adds to I(t): its curve at t − 1 + J, if it conflicts with spread J
 unfoldable pub share : Flow → ℕ → Conflict → ℕ
 share g t Free = 0
 share g t (Spread J) = curve (g .burst) (g .period) (t - 1 + J)
