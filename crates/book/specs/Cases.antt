@@ -1,5 +1,5 @@
--- The starred cases of 01 and a case of its slip 'Expecting a flow's packets in order', as rows of one table (01, Cases on both
--- sides; Slips). All are 4 by 4.
+-- The starred cases of 01 with U3's windows, U3's own, and one of 01's slip 'Expecting a flow's packets in order', as rows of one
+-- table (01, Cases on both sides; Slips; 02, U3). All are 4 by 4.
 use mathlib.Core.List.{List, [], _∷_, map}
 use mathlib.Core.Path.{_≡_}
 use Prim.Native.Nat.{ℕ, zero, suc}
@@ -20,10 +20,13 @@ use Rattle.book.specs.Feed.{Call, offer, step, run}
 abbrev torus : List Flow → Plan
 torus fs = record { sx = 4; sy = 4; flows = fs }
 
--- n steps with room for all exits
+-- n steps with room for all exits, and what comes after them
+abbrev after : ℕ → List Call → List Call
+after zero cs = cs
+after (suc n) cs = step 80 ∷ after n cs
+
 abbrev steps : ℕ → List Call
-steps zero = []
-steps (suc n) = step 80 ∷ steps n
+steps n = after n []
 
 -- what a row says of the definitions
 pub data Case : Type 0 where
@@ -70,9 +73,12 @@ meeting = torus (flow 0 0 0 1 9 1 ∷ flow 3 1 0 1 9 1 ∷ [])
 abbrev overtaking : Plan
 overtaking = torus (flow 0 0 0 1 1 2 ∷ flow 3 1 0 1 9 1 ∷ [])
 
--- the one of period 10
+-- the one of period 10, and one more that leaves in its entry cycle
 abbrev slow : Plan
 slow = torus (flow 0 0 3 3 10 1 ∷ [])
+
+abbrev home : Plan
+home = torus (flow 2 2 2 2 10 1 ∷ [])
 
 abbrev pub starred : List Case
 starred =
@@ -83,14 +89,18 @@ starred =
     ∷ delivers (torus (south ∷ [])) (offer 0 ∷ steps 3) (exit 0 1 0 2 0 ∷ []) (4 ∷ [])
     ∷ delivers (torus (flow 2 2 2 2 9 1 ∷ [])) (offer 0 ∷ steps 1) (exit 0 1 0 0 0 ∷ []) (2 ∷ [])
     ∷ delivers meeting (offer 0 ∷ offer 1 ∷ steps 6) (exit 1 1 0 1 0 ∷ exit 0 1 0 5 1 ∷ []) (3 ∷ 7 ∷ [])
-    ∷ window (across 10 1) (Done 2)
-    ∷ window (across 2 3) (Done 6)
+    ∷ window (across 10 1) (Done 3)
+    ∷ window (across 2 3) (Done 7)
     ∷ window (across 1 1) (Refused 14 0)
     ∷ spread along 8
-    ∷ window along (Done 3)
+    ∷ window along (Done 4)
     ∷ tokens slow (offer 0 ∷ steps 1) 0
     ∷ tokens slow (offer 0 ∷ steps 9) 0
     ∷ tokens slow (offer 0 ∷ steps 10) 1
-    -- not starred: serial 2 of flow 0 leaves in cycle 2, serial 1 in cycle 5
+    -- not starred. U3: "A flow with P 10 and σ 1 may then enter in two neighbouring cycles", 9 and 10; after them it enters in cycle 20
+    ∷ delivers home (after 9 (offer 0 ∷ offer 0 ∷ offer 0 ∷ steps 12)) (exit 0 1 9 9 0 ∷ exit 0 2 10 10 0 ∷ exit 0 3 20 20 0 ∷ []) (2 ∷ 2 ∷ 2 ∷ [])
+    -- U3: "a token that finds it full is lost"
+    ∷ tokens home (steps 10) 1
+    -- 01's slip: serial 2 of flow 0 leaves in cycle 2, serial 1 in cycle 5
     ∷ delivers overtaking (offer 0 ∷ offer 0 ∷ offer 1 ∷ steps 6) (exit 1 1 0 1 0 ∷ exit 0 2 1 2 0 ∷ exit 0 1 0 5 1 ∷ []) (3 ∷ 3 ∷ 7 ∷ [])
     ∷ []

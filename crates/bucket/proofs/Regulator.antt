@@ -1,19 +1,20 @@
 -- The two laws of the regulator: how often a flow enters in neighbouring cycles, and how long it is without a token; and
 -- what a bucket that fits has and keeps. What they rest on from reset is `Regulated`, whose fields nobody else reads. Rests on specs/Regulator.
-use mathlib.Core.Bool.{Bool, true, false, cond, _&&_}
+use mathlib.Core.Bool.{Bool, true, false, cond}
 use mathlib.Core.Logic.{_⊎_, inl, inr}
-use mathlib.Core.Path.{_≡_, refl, ap, _∙_}
+use mathlib.Core.Path.{_≡_, refl, ap}
 use Prim.Native.Nat.{ℕ, _+_, _-_, _*_, _≤_, _<_}
-use native.Mathlib.Nat.{le-div-iff-mul-le, mul-le-mul-right}
+use native.Mathlib.Nat.{mul-le-mul-right}
 use native.Mathlib.Decide.{ℕ-discrete, decLe, decLt}
 use native.Mathlib.Omega.{arith}
-use borrow.Author.Tests.{lt-ltb, le-ltb, le-leb, eq-eqb, ne-eqb, ltb-true, leb-true, eqb-true}
+use borrow.Author.Tests.{lt-ltb, le-ltb, le-leb, eq-eqb, ne-eqb, ltb-true, leb-true}
 use lib.Dec.{ltb, leb}
 use Rattle.laws.specs.Count.{one}
 use Rattle.laws.proofs.Cases.{and-true}
 use Rattle.bucket.specs.declared.Bucket.{Bucket}
 use Rattle.bucket.specs.Regulator.{fullBucket, afterSpend, afterCount, afterCycle, bucketFits}
 use Rattle.bucket.specs.Curve.{curve}
+use Rattle.bucket.proofs.Curve.{curve-counts}
 
 -- tokens and count in one number: a cycle adds at most 1, an entry takes P
 abbrev fill : ℕ → Bucket → ℕ
@@ -23,82 +24,63 @@ fill period b = b .tokens * period + b .count
 record Fitting (burst period : ℕ) (b : Bucket) : Type 0 where
   tokens-most : b .tokens ≤ burst
   count-below : b .count < period
-  rests : b .tokens ≡ burst → b .count ≡ 0
 
 -- b is a flow's bucket at clock c, c cycles after reset, and n a t is how often the flow entered in the cycles from a to t − 1
 pub record Regulated (burst period : ℕ) (b : Bucket) (c : ℕ) (n : ℕ → ℕ → ℕ) : Type 0 where
+  burst-least : 1 ≤ burst
   fitting : Fitting burst period b
   filled : 1 ≤ fill period b
-  so-far : (a : ℕ) → a ≤ c → fill period b + n a c * period + a ≤ burst * period + c
-  before : (a t : ℕ) → a < t → t ≤ c → n a t * period + 1 + a ≤ burst * period + t
+  so-far : (a : ℕ) → a ≤ c → fill period b + n a c * period + a < (burst + 1) * period + c
+  before : (a t : ℕ) → a < t → t ≤ c → n a t * period + 1 + a < (burst + 1) * period + t
 
 -- the cycles until a bucket has a token, if the flow doesn't enter
 unfoldable pub wait : ℕ → Bucket → ℕ
 wait period b = cond (ltb 0 (b .tokens)) 0 (period - b .count)
 
--- what the counter does in a cycle: it gives a token, it runs, or it rests
+-- what the counter does in a cycle: it runs, or it is round and gives a token, which a full bucket loses
 data Counted (burst period : ℕ) (b r : Bucket) : Type 0 where
-  gives : b .tokens < burst → b .count + 1 ≡ period → r .tokens ≡ b .tokens + 1 → r .count ≡ 0 → Counted burst period b r
-  runs : b .tokens < burst → b .count + 1 < period → r .tokens ≡ b .tokens → r .count ≡ b .count + 1 → Counted burst period b r
-  stays : b .tokens ≡ burst → r .tokens ≡ b .tokens → r .count ≡ b .count → Counted burst period b r
+  runs : b .count + 1 < period → r .tokens ≡ b .tokens → r .count ≡ b .count + 1 → Counted burst period b r
+  gives : b .count + 1 ≡ period → b .tokens < burst → r .tokens ≡ b .tokens + 1 → r .count ≡ 0 → Counted burst period b r
+  loses : b .count + 1 ≡ period → b .tokens ≡ burst → r .tokens ≡ b .tokens → r .count ≡ 0 → Counted burst period b r
 
 module _ (burst period : ℕ) where
   fitting : (b : Bucket) → bucketFits burst period b ≡ true → Fitting burst period b
   unfolding bucketFits
   fitting b e =
-      let all = and-true (leb (b .tokens) burst && ltb (b .count) period) _ e in
-      let both = and-true (leb (b .tokens) burst) (ltb (b .count) period) (all .0) in
-      record {
-        tokens-most = leb-true _ _ (both .0);
-        count-below = ltb-true _ _ (both .1);
-        rests = λ full. eqb-true (b .count) 0 (rw (eq-eqb (b .tokens) burst full) at (all .1));
-      }
+      let both = and-true (leb (b .tokens) burst) (ltb (b .count) period) e in
+      record { tokens-most = leb-true _ _ (both .0); count-below = ltb-true _ _ (both .1) }
 
   fitting-fits : (b : Bucket) → Fitting burst period b → bucketFits burst period b ≡ true
   unfolding bucketFits
-  fitting-fits b h =
-      rw (le-leb (b .tokens) burst (h .tokens-most), lt-ltb (b .count) period (h .count-below))
-      (elim (ℕ-discrete (b .tokens) burst) [
-        | yes e ↦ rw (eq-eqb (b .tokens) burst e, eq-eqb (b .count) 0 (h .rests e))
-        | no e ↦ rw (ne-eqb (b .tokens) burst e)
-      ])
+  fitting-fits b h = rw (le-leb (b .tokens) burst (h .tokens-most), lt-ltb (b .count) period (h .count-below))
 
   counted : (b : Bucket) → Fitting burst period b → Counted burst period b (afterCount burst period b)
   unfolding afterCount
   counted b h =
-      elim (decLt (b .tokens) burst) [
-        | yes l ↦ elim (ℕ-discrete (b .count + 1) period) [
-          | yes e ↦ rw (lt-ltb (b .tokens) burst l, eq-eqb (b .count + 1) period e) (gives l e refl refl)
-          | no e ↦ rw (lt-ltb (b .tokens) burst l, ne-eqb (b .count + 1) period e) (runs l (omega (arith, h .count-below)) refl refl)
+      elim (ℕ-discrete (b .count + 1) period) [
+        | yes e ↦ elim (decLt (b .tokens) burst) [
+          | yes l ↦ rw (eq-eqb (b .count + 1) period e, lt-ltb (b .tokens) burst l) (gives e l refl refl)
+          | no l ↦ rw (eq-eqb (b .count + 1) period e, le-ltb (b .tokens) burst (omega arith)) (loses e (omega (arith, h .tokens-most)) refl refl)
         ]
-        | no l ↦ rw (le-ltb (b .tokens) burst (omega arith)) (stays (omega (arith, h .tokens-most)) refl refl)
+        | no e ↦ rw (ne-eqb (b .count + 1) period e) (runs (omega (arith, h .count-below)) refl refl)
       ]
 
   -- a bucket that fits, after the counter, after an entry or none, and after a cycle
   counted-fits : (b r : Bucket) → Fitting burst period b → Counted burst period b r → Fitting burst period r
-  counted-fits b r h (gives l e t c) = record { tokens-most = omega arith; count-below = omega arith; rests = λ x. c }
-  counted-fits b r h (runs l e t c) = record { tokens-most = omega arith; count-below = omega arith; rests = λ x. absurd (omega arith) }
-  counted-fits b r h (stays l t c) = record { tokens-most = omega arith; count-below = omega (arith, h .count-below); rests = λ x. c ∙ h .rests l }
+  counted-fits b r h (runs e t c) = record { tokens-most = omega (arith, h .tokens-most); count-below = omega arith }
+  counted-fits b r h (gives e l t c) = record { tokens-most = omega arith; count-below = omega arith }
+  counted-fits b r h (loses e l t c) = record { tokens-most = omega arith; count-below = omega arith }
 
-  spent-fits : (e : Bool) (b : Bucket) → Fitting burst period b → (e ≡ true → 1 ≤ b .tokens) → Fitting burst period (cond e (afterSpend b) b)
-  spent-fits true b h token =
-      let some = token refl in
-      let most = h .tokens-most in
-      record { tokens-most = omega arith; count-below = h .count-below; rests = λ x. absurd (omega arith) }
-  spent-fits false b h token = h
+  spent-fits : (e : Bool) (b : Bucket) → Fitting burst period b → Fitting burst period (cond e (afterSpend b) b)
+  spent-fits true b h = record { tokens-most = omega (arith, h .tokens-most); count-below = h .count-below }
+  spent-fits false b h = h
 
-  cycled-fits : (e : Bool) (b : Bucket) → Fitting burst period b → (e ≡ true → 1 ≤ b .tokens) → Fitting burst period (afterCycle burst period e b)
+  cycled-fits : (e : Bool) (b : Bucket) → Fitting burst period b → Fitting burst period (afterCycle burst period e b)
   unfolding afterCycle
-  cycled-fits e b h token = let spent = spent-fits e b h token in counted-fits _ _ spent (counted _ spent)
+  cycled-fits e b h = let spent = spent-fits e b h in counted-fits _ _ spent (counted _ spent)
 
-  fill-most : (b : Bucket) → Fitting burst period b → fill period b ≤ burst * period
-  fill-most b h =
-      elim (ℕ-discrete (b .tokens) burst) [
-        | yes e ↦ omega (arith, h .rests e, ap (λ (x : ℕ). x * period) e)
-        | no e ↦
-            let l : b .tokens + 1 ≤ burst = omega (arith, h .tokens-most) in
-            omega (arith, h .count-below, mul-le-mul-right period l)
-      ]
+  fill-most : (b : Bucket) → Fitting burst period b → fill period b < (burst + 1) * period
+  fill-most b h = omega (arith, h .count-below, mul-le-mul-right period (h .tokens-most))
 
   -- no wait with a token; without one, until the counter is round
   abbrev Waits : Bucket → Type 0
@@ -117,43 +99,43 @@ module _ (burst period : ℕ) where
     fill-more : fill period r + one e * period ≤ fill period b + 1
     filled : 1 ≤ fill period r
 
-  -- the counter's part: it is not full and nothing was spent, or it has room
-  ran : (b r : Bucket) → Counted burst period b r → (b .tokens < burst) ⊎ (1 ≤ fill period b) → Cycled false b r
-  ran b r (gives l e t c) h =
+  -- the counter's part
+  ran : 1 ≤ burst → (b r : Bucket) → Counted burst period b r → Cycled false b r
+  ran h b r (runs e t c) =
+      let fills : r .tokens * period ≡ b .tokens * period = ap (λ (x : ℕ). x * period) t in
+      record { fill-more = omega arith; filled = omega arith }
+  ran h b r (gives e l t c) =
       let fills : r .tokens * period ≡ (b .tokens + 1) * period = ap (λ (x : ℕ). x * period) t in
       record { fill-more = omega arith; filled = omega arith }
-  ran b r (runs l e t c) h =
+  ran h b r (loses e l t c) =
       let fills : r .tokens * period ≡ b .tokens * period = ap (λ (x : ℕ). x * period) t in
-      record { fill-more = omega arith; filled = omega arith }
-  ran b r (stays l t c) h =
-      let fills : r .tokens * period ≡ b .tokens * period = ap (λ (x : ℕ). x * period) t in
-      record { fill-more = omega arith; filled = elim h [ inl x ↦ absurd (omega arith) | inr x ↦ omega arith ] }
+      let some : 1 ≤ b .tokens = omega arith in
+      record { fill-more = omega arith; filled = omega (arith, mul-le-mul-right period some) }
 
   module _ (b : Bucket) (c : ℕ) (n : ℕ → ℕ → ℕ) (held : Regulated burst period b c n) where
     cycled : (e : Bool) → (e ≡ true → 1 ≤ b .tokens) → Cycled e b (afterCycle burst period e b)
     unfolding afterCycle
     cycled true token =
         let some : 1 ≤ b .tokens = token refl in
-        let room : b .tokens - 1 < burst = omega (arith, held .fitting .tokens-most) in
-        let ran′ = ran (afterSpend b) _ (counted (afterSpend b) (spent-fits true b (held .fitting) token)) (inl room) in
+        let ran′ = ran (held .burst-least) (afterSpend b) _ (counted (afterSpend b) (spent-fits true b (held .fitting))) in
         let spent : b .tokens * period ≡ (b .tokens - 1 + 1) * period = ap (λ (x : ℕ). x * period) (omega arith) in
         record { fill-more = omega (arith, ran′ .fill-more); filled = ran′ .filled }
-    cycled false token = ran b _ (counted b (held .fitting)) (inr (held .filled))
+    cycled false token = ran (held .burst-least) b _ (counted b (held .fitting))
 
     -- a cycle, and the entries so far with the one of this cycle
     pub cycle : (e : Bool) → (e ≡ true → 1 ≤ b .tokens) → (n′ : ℕ → ℕ → ℕ)
         → ((a t : ℕ) → t ≤ c → n′ a t ≡ n a t) → ((a : ℕ) → a ≤ c → n′ a (c + 1) ≡ n a c + one e) → n′ (c + 1) (c + 1) ≡ 0
         → Regulated burst period (afterCycle burst period e b) (c + 1) n′
     cycle e token n′ old new none =
-        record { fitting = after; filled = r .filled; so-far = far; before = past }
+        record { burst-least = held .burst-least; fitting = after; filled = r .filled; so-far = far; before = past }
       where
         r : Cycled e b (afterCycle burst period e b)
         r = cycled e token
 
         after : Fitting burst period (afterCycle burst period e b)
-        after = cycled-fits e b (held .fitting) token
+        after = cycled-fits e b (held .fitting)
 
-        far : (a : ℕ) → a ≤ c + 1 → fill period (afterCycle burst period e b) + n′ a (c + 1) * period + a ≤ burst * period + (c + 1)
+        far : (a : ℕ) → a ≤ c + 1 → fill period (afterCycle burst period e b) + n′ a (c + 1) * period + a < (burst + 1) * period + (c + 1)
         far a l =
             elim (decLe a c) [
               | yes m ↦ omega (arith, held .so-far a m, ap (λ (x : ℕ). x * period) (new a m), r .fill-more)
@@ -162,7 +144,7 @@ module _ (burst period : ℕ) where
                   rw (now, none) (omega (arith, fill-most (afterCycle burst period e b) after))
             ]
 
-        past : (a t : ℕ) → a < t → t ≤ c + 1 → n′ a t * period + 1 + a ≤ burst * period + t
+        past : (a t : ℕ) → a < t → t ≤ c + 1 → n′ a t * period + 1 + a < (burst + 1) * period + t
         past a t l m =
             elim (decLe t c) [
               | yes k ↦ rw (old a t k) (held .before a t l k)
@@ -173,6 +155,7 @@ module _ (burst period : ℕ) where
     pub recount : (n′ : ℕ → ℕ → ℕ) → ((a t : ℕ) → n′ a t ≡ n a t) → Regulated burst period b c n′
     recount n′ same =
         record {
+          burst-least = held .burst-least;
           fitting = held .fitting;
           filled = held .filled;
           so-far = λ a l. rw (same a c) (held .so-far a l);
@@ -181,16 +164,7 @@ module _ (burst period : ℕ) where
 
     -- in L ≥ 1 neighbouring cycles a flow enters at most curve (L − 1) times
     pub enters-at-most : (a t d : ℕ) → a < t → t ≤ c → t ≤ a + 1 + d → n a t ≤ curve burst period d
-    unfolding curve
-    enters-at-most a t d l m k =
-        elim (decLe (n a t) burst) [
-          | yes h ↦ omega arith
-          | no h ↦
-              let over : (n a t - burst) * period ≤ d =
-              let split : n a t * period ≡ (n a t - burst + burst) * period = ap (λ (x : ℕ). x * period) (omega arith) in
-              omega (arith, held .before a t l m) in
-              omega (arith, le-div-iff-mul-le {k = period} {x = n a t - burst} {y = d} (omega (arith, held .fitting .count-below)) .1 over)
-        ]
+    enters-at-most a t d l m k = curve-counts burst period d (n a t) (omega (arith, held .fitting .count-below)) (omega (arith, held .before a t l m))
 
     -- a flow is without a token for at most P − 1 cycles
     pub wait-most : wait period b < period
@@ -210,11 +184,11 @@ module _ (burst period : ℕ) where
       where
         less : Counted burst period b (afterCount burst period b) → Waits (afterCount burst period b) → Waits b
             → wait period (afterCount burst period b) + 1 ≡ wait period b
-        less (gives l e t c) (inl u) (inr v) = omega arith
-        less (gives l e t c) (inr u) (inr v) = absurd (omega arith)
-        less (runs l e t c) (inl u) (inr v) = absurd (omega arith)
-        less (runs l e t c) (inr u) (inr v) = omega arith
-        less (stays l t c) w (inr v) = absurd (omega arith)
+        less (runs e t c) (inl u) (inr v) = absurd (omega arith)
+        less (runs e t c) (inr u) (inr v) = omega arith
+        less (gives e l t c) (inl u) (inr v) = omega arith
+        less (gives e l t c) (inr u) (inr v) = absurd (omega arith)
+        less (loses e l t c) w (inr v) = absurd (omega arith)
         less counted′ w (inl v) = absurd (omega arith)
 
     pub token-stays : 1 ≤ b .tokens → 1 ≤ (afterCycle burst period false b) .tokens
@@ -222,9 +196,9 @@ module _ (burst period : ℕ) where
     token-stays some = stay (counted b (held .fitting))
       where
         stay : Counted burst period b (afterCount burst period b) → 1 ≤ (afterCount burst period b) .tokens
-        stay (gives l e t c) = omega arith
-        stay (runs l e t c) = omega arith
-        stay (stays l t c) = omega arith
+        stay (runs e t c) = omega arith
+        stay (gives e l t c) = omega arith
+        stay (loses e l t c) = omega arith
 
     pub fits : bucketFits burst period b ≡ true
     fits = fitting-fits b (held .fitting)
@@ -235,17 +209,18 @@ module _ (burst period : ℕ) where
 
   pub cycle-fits : (e : Bool) (b : Bucket) → bucketFits burst period b ≡ true → (e ≡ true → 1 ≤ b .tokens)
       → bucketFits burst period (afterCycle burst period e b) ≡ true
-  cycle-fits e b h token = fitting-fits _ (cycled-fits e b (fitting b h) token)
+  cycle-fits e b h token = fitting-fits _ (cycled-fits e b (fitting b h))
 
   -- the bucket at reset
   pub full-fits : 1 ≤ period → bucketFits burst period (fullBucket burst) ≡ true
   unfolding bucketFits
-  full-fits k = rw (le-leb burst burst (omega arith), lt-ltb 0 period k, eq-eqb burst burst refl)
+  full-fits k = rw (le-leb burst burst (omega arith), lt-ltb 0 period k)
 
   pub reset : 1 ≤ burst → 1 ≤ period → (n : ℕ → ℕ → ℕ) → n 0 0 ≡ 0 → Regulated burst period (fullBucket burst) 0 n
   reset h k n none =
       record {
-        fitting = record { tokens-most = omega arith; count-below = k; rests = λ e. refl };
+        burst-least = h;
+        fitting = record { tokens-most = omega arith; count-below = k };
         filled = omega (arith, mul-le-mul-right period h);
         so-far = λ a l. let first : a ≡ 0 = omega arith in rw (first, none) (omega arith);
         before = λ a t l m. absurd (omega arith);

@@ -21,25 +21,24 @@ impl Bucket {
         }
     }
 
-    // The bucket after the counter has run for a cycle.
+    // The bucket after the counter has run for a cycle. At the period it returns to 0 and gives a token, lost if the bucket is full.
     pub fn count(self, burst: u32, period: u32) -> Bucket
         requires { ⌜ self .count < period ⌝ }
         ensures { λ r. ⌜ r ≡ afterCount burst period self ⌝ }
     {
-        if self.tokens < burst {
-            let next = self.count + 1;
-            if next == period {
-                return Bucket {
-                    tokens: self.tokens + 1,
-                    count: 0,
-                };
-            }
-            return Bucket {
-                tokens: self.tokens,
-                count: next,
+        let next = self.count + 1;
+        if next == period {
+            let tokens = if self.tokens < burst {
+                self.tokens + 1
+            } else {
+                self.tokens
             };
+            return Bucket { tokens, count: 0 };
         }
-        self
+        Bucket {
+            tokens: self.tokens,
+            count: next,
+        }
     }
 
     // What words that form a state have of a bucket.
@@ -49,13 +48,7 @@ impl Bucket {
         if burst < self.tokens {
             return false;
         }
-        if period <= self.count {
-            return false;
-        }
-        if self.tokens == burst {
-            return self.count == 0;
-        }
-        true
+        self.count < period
     }
 }
 
@@ -64,5 +57,9 @@ pub fn most_entries(burst: u32, period: u32, d: u32) -> u32
     requires { ⌜ (1 ≤ period) × (burst + d < 4294967296) ⌝ }
     ensures { λ r. ⌜ r ≡ curve burst period d ⌝ }
 {
-    burst + d / period
+    let whole = burst + d / period;
+    if d % period == 0 {
+        return whole;
+    }
+    whole + 1
 }

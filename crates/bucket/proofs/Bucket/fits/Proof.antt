@@ -6,4 +6,4 @@ use Rattle.bucket.proofs.Bucket.fits.Tie as tie
 
 pub fits-spec : {M : Type 1} → statement M
 unfolding bucketFits
-fits-spec = tie.close (tie.spec (λ c. search cases) (λ c. search cases) (λ c. search cases) (λ c. search cases))
+fits-spec = tie.close (tie.spec (λ c. search cases) (λ c. search cases))
