@@ -14,7 +14,7 @@
 //!
 //! let plan = hrt::Plan::read(file)?;
 //! assert_eq!(plan.notes(), b"a note");
-//! assert_eq!(plan.window(0), hrt::Answer::Done(2));
+//! assert_eq!(plan.window(0), hrt::Answer::Done(3));
 //! assert_eq!(plan.flight(0), hrt::Answer::Done(3));
 //!
 //! let mut state = plan.reset()?;

@@ -1,10 +1,10 @@
 //! 01's "Cases on both sides", on the second simulator alone.
 
 use second::book::{Book, Router};
-use second::compare::plans::last_window;
+use second::compare::plans::{LAST_WINDOW, PAST_THE_LAST, late_window};
 use second::plan::{Flow, Plan, Refusal, read};
 use second::state::{judge, words};
-use second::window::{flight_bound, listing, spread, window, window_call};
+use second::window::{flight_bound, interference, listing, rivals, spread, window, window_call};
 use second::{calls, random};
 
 /// A plan on the 4 by 4 torus: each flow's six numbers.
@@ -66,20 +66,23 @@ fn a_flows_packets_out_of_order() {
 #[test]
 fn windows() {
     let f = [1, 0, 2, 0, 10, 1];
-    for (period, burst, t) in [(10, 1, Some(2)), (2, 3, Some(6)), (1, 1, None)] {
+    for (period, burst, t) in [(10, 1, Some(3)), (2, 3, Some(7)), (1, 1, None)] {
         let plan = four_by_four(&[f, [0, 0, 3, 0, period, burst]]);
         assert_eq!(window(&plan, 0), t);
         let answer = t.map_or(no(14, 0), |t| Ok(t as u64));
         assert_eq!(window_call(&plan.file(&[]), 0), answer);
     }
     let plan = four_by_four(&[[0, 2, 0, 3, 10, 1], [0, 0, 0, 3, 8, 1]]);
-    assert_eq!((spread(&plan, 0, 1), window(&plan, 0)), (Some(8), Some(3)));
+    assert_eq!((spread(&plan, 0, 1), window(&plan, 0)), (Some(8), Some(4)));
 }
 
 #[test]
 fn the_last_window() {
-    assert_eq!(window(&last_window(1), 0), Some(65_535));
-    assert_eq!(window_call(&last_window(2).file(&[]), 0), no(14, 0));
+    let plan = late_window(LAST_WINDOW);
+    assert_eq!((spread(&plan, 0, 1), window(&plan, 0)), (Some(2), Some(65_535)));
+    let plan = late_window(PAST_THE_LAST);
+    assert_eq!(window_call(&plan.file(&[]), 0), no(14, 0));
+    assert!(interference(&rivals(&plan, 0), 65_536) < 65_536);
 }
 
 #[test]
@@ -93,6 +96,51 @@ fn the_next_token_comes_after_a_period() {
     }
     assert_eq!(book.lines[0].entry, Some(0));
     assert_eq!(tokens, [1, 0, 0, 0, 0, 0, 0, 0, 0, 0, 1, 1]);
+}
+
+/// U3: "A flow with P 10 and σ 1 may then enter in two neighbouring cycles", and "a token that finds
+/// it full is lost".
+#[test]
+fn two_neighbouring_cycles() {
+    let mut book = Book::new(four_by_four(&[[2, 2, 2, 2, 10, 1]]));
+    for _ in 0..9 {
+        book.step(80).unwrap();
+    }
+    for _ in 0..4 {
+        book.offer(0).unwrap();
+    }
+    for _ in 9..35 {
+        book.step(80).unwrap();
+    }
+    let entries: Vec<_> = book.lines.iter().map(|line| line.entry.unwrap()).collect();
+    assert_eq!(entries, [9, 10, 20, 30]);
+}
+
+/// U3: "the state no longer needs count 0 at a full bucket". The count stays below P.
+#[test]
+fn a_full_bucket_may_have_any_count() {
+    let mut state = words(&Book::new(four_by_four(&[[0, 0, 1, 0, 10, 2]])));
+    for tokens in 0..=2 {
+        for count in 0..10 {
+            state[14..16].copy_from_slice(&[tokens, count]);
+            assert!(judge(&state).is_ok(), "{tokens} tokens and count {count}");
+        }
+        state[15] = 10;
+        assert_eq!(judge(&state).unwrap_err(), Refusal { number: 9, place: 0 });
+    }
+}
+
+/// The entry promise is one from reset. In words with no token and count 0, which form a state but
+/// which no list reaches, a packet waits for a whole period, and P + T − 2 is one cycle less.
+#[test]
+fn an_empty_bucket_with_count_0_breaks_the_promise() {
+    let plan = Plan { sx: 1, sy: 1, flows: vec![Flow::from_numbers([0, 0, 0, 0, 2, 1])] };
+    assert_eq!(window(&plan, 0), Some(1));
+    let mut state = words(&Book::new(plan));
+    state[14..16].copy_from_slice(&[0, 0]);
+    assert_eq!(calls::offer(&mut state, 0), Ok(0));
+    let exits = [0; 3].map(|_| calls::step(&mut state, &mut [0; 5]).unwrap());
+    assert_eq!(exits, [0, 0, 1]);
 }
 
 #[test]
@@ -153,7 +201,7 @@ fn the_sample_listing() {
         0x01, 0x00, 0x02, 0x00, 0x0A, 0x00, 0x01, 0x00, 0x00, 0x00, 0x03, 0x00, 0x0A, 0x00, 0x01,
         0x00, 0x00, 0x00, 0x00, 0x00, 0x02, 0x00, 0x04, 0x04, 0x48, 0x52, 0x54, 0x50,
     ];
-    assert_eq!(listing(&file), "flow port window flight wait\n0 E 2 3 10\n1 E 1 5 9\n");
+    assert_eq!(listing(&file), "flow port window flight wait\n0 E 3 3 11\n1 E 1 5 9\n");
     assert_eq!(listing(&file[..11]), "refused 1 0\n");
     let mut damaged = file;
     damaged[27] = 0x51;

@@ -1,5 +1,5 @@
 //! The plans that refute a slipped T: their worst waits, reached by a list of offers, pass the
-//! slipped bound and keep to 01's.
+//! slipped bound and keep to the right one.
 
 use second::book::Book;
 use second::promises::{check, windows};
@@ -34,21 +34,20 @@ fn each_slip_is_refuted() {
         assert_eq!(worst.wait, row.wait, "{name}");
         assert_eq!(replay(&worst, plan, f), row.wait, "{name}");
         assert!(lone_wait(plan, f, row.slipped) < row.wait, "{name} would pass");
-        assert!(row.wait <= lone_wait(plan, f, row.window), "{name}: past 01's bound");
+        assert!(row.wait <= lone_wait(plan, f, row.window), "{name}: past the bound");
     }
 }
 
 #[test]
 fn the_bound_is_met_exactly() {
     let (plan, list) = met_exactly();
-    assert_eq!(window(&plan, 0), Some(28));
-    assert_eq!((list.wait, lone_wait(&plan, 0, 28)), (27, 27));
-    assert_eq!(replay(&list, &plan, 0), 27);
+    assert_eq!(window(&plan, 0), Some(17));
+    assert_eq!((list.wait, lone_wait(&plan, 0, 17)), (16, 16));
+    assert_eq!(replay(&list, &plan, 0), 16);
 }
 
-/// All 165,598 books that lists of this plan reach: by command, since it takes some seconds.
+/// All 28,374 books that lists of this plan reach.
 #[test]
-#[ignore]
 fn no_list_passes_the_bound_that_is_met() {
-    assert_eq!(worst_wait(&met_exactly().0, 0).wait, 27);
+    assert_eq!(worst_wait(&met_exactly().0, 0).wait, 16);
 }

@@ -242,15 +242,14 @@ impl Book {
         self.send(line, client, way, exits);
     }
 
-    /// Rule 4, after entry.
+    /// Rule 4 by U3, after entry: the count advances every cycle and returns to 0 at P. That gives a
+    /// token; one that finds the bucket full is lost.
     fn count_bucket(&mut self, flow: usize) {
         let (period, burst) = (self.plan.flows[flow].period, self.plan.flows[flow].burst);
         let bucket = &mut self.buckets[flow];
-        if bucket.tokens < burst {
-            bucket.count += 1;
-            if bucket.count == period {
-                *bucket = Bucket { tokens: bucket.tokens + 1, count: 0 };
-            }
+        bucket.count += 1;
+        if bucket.count == period {
+            *bucket = Bucket { tokens: burst.min(bucket.tokens + 1), count: 0 };
         }
     }
 }

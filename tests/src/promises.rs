@@ -14,13 +14,15 @@ pub fn windows(book: &Book, watch: impl Fn(usize) -> bool) -> Windows {
     (0..book.plan.flows.len()).map(watched).collect()
 }
 
-/// The promises on all lines, and that the list delivered exactly the lines with an exit.
+/// The promises on all lines, that the list delivered exactly the lines with an exit, and what
+/// buckets have from reset.
 pub fn check(book: &Book, windows: &Windows, delivered: &[Delivery]) {
     for line in &book.lines {
         check_line(book, windows, line);
     }
     check_indexes(book);
     check_delivered(book, delivered);
+    check_buckets(book);
 }
 
 /// The promises on the lines that can still change: enough after a single call.
@@ -53,6 +55,15 @@ fn check_line(book: &Book, windows: &Windows, line: &Line) {
             assert!(book.clock <= due(entry), "still there at {}: {line:?}", book.clock);
         }
         (None, exit) => assert_eq!((line.place, exit), (None, None), "not entered: {line:?}"),
+    }
+}
+
+/// From reset the counter never rests, so its count is the clock's remainder; and an empty bucket
+/// is never a whole period from its next token.
+fn check_buckets(book: &Book) {
+    for (bucket, flow) in book.buckets.iter().zip(&book.plan.flows) {
+        assert_eq!(bucket.count, book.clock % flow.period, "{bucket:?} at {}", book.clock);
+        assert!(bucket.tokens > 0 || bucket.count > 0, "{bucket:?} at {}", book.clock);
     }
 }
 

@@ -111,7 +111,7 @@ pub fn state(random: &mut Random, plan: &Plan) -> Vec<u32> {
     book.clock = clock;
     for (f, flow) in plan.flows.iter().enumerate() {
         let tokens = if random.percent(30) { flow.burst } else { random.from(0, flow.burst) };
-        let highest = if tokens == flow.burst { 0 } else { flow.period - 1 };
+        let highest = flow.period - 1;
         let count = if random.percent(30) { highest } else { random.from(0, highest) };
         book.buckets[f] = Bucket { tokens, count };
         book.entered[f] = if random.percent(20) { clock } else { random.from(0, clock) };

@@ -2,7 +2,7 @@
 //! some list of offers makes a lone packet wait longer than the slipped T allows.
 
 use crate::plan::{Flow, Plan, Port};
-use crate::window::{Rival, interference, least_window, rivals_by, spread};
+use crate::window::{Rival, interference, least, least_window, rivals_by, spread};
 use crate::worst::Worst;
 
 #[derive(Clone, Copy, Debug, PartialEq, Eq)]
@@ -25,6 +25,8 @@ pub enum Slip {
     SyForSx,
     /// I(t) ≤ t in place of I(t) < t.
     EqualAllowed,
+    /// 01's own curve, σ + ⌊(t−1+J)/P⌋, with U3's regulator.
+    FloorForCeiling,
 }
 
 impl Slip {
@@ -55,10 +57,12 @@ impl Slip {
     /// T of flow f with this slip.
     pub fn window(self, plan: &Plan, f: usize) -> Option<i64> {
         let rivals: Vec<Rival> = rivals_by(plan, |g| self.spread(plan, f, g));
-        if self == Slip::EqualAllowed {
-            return (1..=65_535).find(|&t| interference(&rivals, t) <= t).map(i64::from);
+        let floor = |t| rivals.iter().map(|r| r.burst + (t - 1 + r.spread) / r.period).sum::<u32>();
+        match self {
+            Slip::EqualAllowed => least(|t| interference(&rivals, t) <= t),
+            Slip::FloorForCeiling => least(|t| floor(t) < t),
+            _ => least_window(&rivals),
         }
-        least_window(&rivals)
     }
 }
 
@@ -77,67 +81,68 @@ fn plan(sx: i64, sy: i64, flows: &[[i64; 6]]) -> Plan {
     Plan { sx, sy, flows }
 }
 
-/// For each slip the smallest plan known to refute it.
+/// For each slip a small plan that refutes it.
 pub fn refuted() -> Vec<Refuted> {
     let turn_and_column =
-        || plan(3, 2, &[[1, 1, 1, 0, 2, 2], [0, 1, 1, 1, 4, 2], [1, 0, 1, 1, 5, 1]]);
+        || plan(2, 2, &[[0, 0, 0, 0, 1, 2], [1, 0, 0, 1, 3, 1], [0, 1, 0, 0, 3, 1]]);
     let exit_shared = || plan(5, 2, &[[2, 1, 2, 1, 1, 2], [0, 1, 2, 1, 2, 1]]);
     let row =
         |slip, plan, f, window, slipped, wait| Refuted { slip, plan, f, window, slipped, wait };
     vec![
-        row(Slip::NoSpread, turn_and_column(), 0, 6, 4, 5),
-        row(Slip::SouthOneRowLess, turn_and_column(), 0, 6, 4, 5),
+        row(Slip::NoSpread, turn_and_column(), 0, 10, 7, 7),
+        row(Slip::SouthOneRowLess, turn_and_column(), 0, 10, 7, 7),
         row(
             Slip::EastOneRowLess,
             plan(2, 3, &[[1, 2, 0, 2, 1, 3], [0, 0, 0, 2, 3, 1], [1, 1, 0, 1, 2, 1]]),
             0,
+            4,
             3,
-            2,
-            2,
+            3,
         ),
-        row(Slip::LastRowSpared, exit_shared(), 0, 2, 1, 1),
+        row(Slip::LastRowSpared, exit_shared(), 0, 3, 1, 2),
         row(
             Slip::OtherPortIgnored,
             plan(3, 3, &[[2, 0, 1, 2, 4, 1], [2, 0, 2, 0, 1, 1]]),
             1,
+            3,
+            1,
             2,
-            1,
-            1,
         ),
         row(
             Slip::TurningIgnored,
             plan(2, 2, &[[0, 0, 1, 1, 1, 2], [1, 0, 0, 0, 2, 1]]),
             0,
+            3,
+            1,
             2,
-            1,
-            1,
         ),
         row(
             Slip::OtherRowsIgnored,
             plan(2, 5, &[[0, 3, 1, 3, 2, 1], [1, 2, 1, 4, 3, 1]]),
             0,
-            2,
+            3,
             1,
             2,
         ),
         row(
             Slip::SyForSx,
-            plan(4, 2, &[[0, 1, 0, 1, 2, 2], [2, 1, 0, 0, 3, 1], [3, 0, 0, 1, 5, 1]]),
+            plan(3, 2, &[[0, 0, 0, 0, 1, 2], [2, 1, 0, 0, 3, 1], [1, 0, 0, 1, 4, 1]]),
             0,
-            5,
-            3,
-            5,
+            9,
+            8,
+            8,
         ),
-        row(Slip::EqualAllowed, exit_shared(), 0, 2, 1, 1),
+        row(Slip::EqualAllowed, exit_shared(), 0, 3, 1, 2),
+        row(Slip::FloorForCeiling, exit_shared(), 0, 3, 2, 2),
     ]
 }
 
-/// A plan whose flow 0 can wait as long as its bound allows (T 28, wait 27), and a list that makes
+/// A plan whose flow 0 can wait as long as its bound allows (T 17, wait 16), and a list that makes
 /// its last packet do so: the flows offered before each step, as a digit each.
 pub fn met_exactly() -> (Plan, Worst) {
-    let flows = [[0, 2, 0, 3, 1, 2], [3, 0, 0, 2, 2, 2], [1, 1, 0, 1, 4, 1], [3, 2, 0, 2, 4, 2]];
-    let list = "2,1,,,,1,2,13,,1,,1,,13,,1,,1,03,1,3,1,13,,,1,13,,,1,13,1,,,13,1,,,13,1,,1,3,,,";
+    let flows = [[1, 3, 1, 1, 1, 2], [1, 0, 0, 1, 6, 2], [0, 3, 1, 3, 4, 1], [0, 2, 1, 1, 2, 2]];
+    let list = ",3,2,3,,3,,023,,23,3,,,23,3,,23,3,3,,23,,,";
     let digits = |cycle: &str| cycle.chars().map(|digit| digit.to_digit(10).unwrap()).collect();
     let offers = list.split(',').map(digits).collect();
-    (plan(4, 4, &flows), Worst { wait: 27, offers })
+    (plan(2, 4, &flows), Worst { wait: 16, offers })
 }

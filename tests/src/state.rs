@@ -77,8 +77,7 @@ pub fn judge(memory: &[u32]) -> Result<Book, Refusal> {
         let flow = book.plan.flows[f];
         let on_torus = flow.xs < sx && flow.xd < sx && flow.ys < sy && flow.yd < sy;
         let ranges = (1..=65_535).contains(&flow.period) && (1..=255).contains(&flow.burst);
-        let full = tokens == flow.burst;
-        let bucket = tokens <= flow.burst && counter < flow.period && (!full || counter == 0);
+        let bucket = tokens <= flow.burst && counter < flow.period;
         if !(on_torus && ranges && bucket && waiting <= 65_535 && entered <= clock) {
             return refuse(9, 0);
         }

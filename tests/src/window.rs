@@ -42,14 +42,19 @@ pub fn rivals_by(plan: &Plan, rule: impl Fn(usize) -> Option<i64>) -> Vec<Rival>
     (0..plan.flows.len()).filter_map(rival).collect()
 }
 
-/// I(t) = the sum of σ + ⌊(t−1+J)/P⌋.
+/// I(t) = the sum of σ + ⌈(t−1+J)/P⌉, by U3.
 pub fn interference(rivals: &[Rival], t: u32) -> u32 {
-    rivals.iter().map(|r| r.burst + (t - 1 + r.spread) / r.period).sum()
+    rivals.iter().map(|r| r.burst + (t - 1 + r.spread).div_ceil(r.period)).sum()
 }
 
 /// The least t from 1 to 65,535 with I(t) < t.
 pub fn least_window(rivals: &[Rival]) -> Option<i64> {
-    (1..=65_535).find(|&t| interference(rivals, t) < t).map(i64::from)
+    least(|t| interference(rivals, t) < t)
+}
+
+/// The least t from 1 to 65,535 that is a window.
+pub fn least(is_window: impl Fn(u32) -> bool) -> Option<i64> {
+    (1..=65_535).find(|&t| is_window(t)).map(i64::from)
 }
 
 /// T of flow f.

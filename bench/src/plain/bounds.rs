@@ -44,7 +44,7 @@ fn window(file: &File, f: usize) -> Option<u32> {
     let mut t = 1;
     while t <= 65_535 {
         let rate: u32 =
-            rivals[..count].iter().map(|&(spread, period)| (t - 1 + spread) / period).sum();
+            rivals[..count].iter().map(|&(spread, period)| (t - 1 + spread).div_ceil(period)).sum();
         let demand = burst + rate;
         if demand < t {
             return Some(t);

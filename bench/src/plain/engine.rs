@@ -25,11 +25,9 @@ fn enter(sx: usize, flows: &mut [FlowWords], registers: &[Register]) -> [u16; 25
                 flows[f][9] -= 1;
             }
         }
-        if tokens < burst {
-            count += 1;
-            if count == period {
-                (tokens, count) = (tokens + 1, 0);
-            }
+        count += 1;
+        if count == period {
+            (tokens, count) = (burst.min(tokens + 1), 0);
         }
         flows[f][6] = tokens;
         flows[f][7] = count;

@@ -52,7 +52,6 @@ fn flow_holds(state: &State, flow: &FlowWords) -> bool {
         && (1..=255).contains(&burst)
         && tokens <= burst
         && count < period
-        && (tokens < burst || count == 0)
         && waiting <= 65_535
         && entered <= state.clock
 }

@@ -4,7 +4,7 @@ use second::calls;
 use second::host::{Bounds, returned, returned_window};
 use second::plan::{Flow, MOST_BYTES, Plan, read};
 use second::slips::Slip;
-use second::window::{flight_call, window_call};
+use second::window::{Rival, flight_call, least, rivals, window_call};
 
 /// What a call gave, for a fault to change: its answer, as 64-bit answers are, and what it is of.
 pub struct Given<'a> {
@@ -67,6 +67,15 @@ pub fn slipped(slip: Slip) -> impl Fn(&mut Given) {
     }
 }
 
+/// T of a flow with other shares of its rivals in I(t).
+fn shared(given: &mut Given, share: fn(&Rival, u32) -> u32) {
+    if let ("window", Some((plan, f))) = (given.call, given.accepted()) {
+        let rivals = rivals(&plan, f);
+        let t = least(|t| rivals.iter().map(|rival| share(rival, t)).sum::<u32>() < t);
+        given.answer = t.map_or(14 << 32 | f as u64, |t| t as u64);
+    }
+}
+
 /// The flight bound with other offsets.
 fn flown(given: &mut Given, offsets: fn(&Plan, usize) -> (i64, i64)) {
     if let ("flight", Some((plan, f))) = (given.call, given.accepted()) {
@@ -82,6 +91,12 @@ fn wrapped(from: i64, to: i64, size: i64) -> i64 {
 }
 
 pub const FAULTS: &[(&str, fn(&mut Given))] = &[
+    ("the ceiling of t+J", |given| {
+        shared(given, |rival, t| rival.burst + (t + rival.spread).div_ceil(rival.period))
+    }),
+    ("the floor and one more for the ceiling", |given| {
+        shared(given, |rival, t| rival.burst + (t - 1 + rival.spread) / rival.period + 1)
+    }),
     ("columns of a difference that wraps", |given| {
         flown(given, |plan, f| (wrapped(plan.flows[f].xs, plan.flows[f].xd, plan.sx), plan.dy(f)))
     }),

@@ -23,6 +23,13 @@ impl Given<'_> {
         self.call == "step" && self.accepted()
     }
 
+    /// The words of the flows whose buckets are full: P, σ, tokens and count.
+    fn full_buckets(&mut self) -> impl Iterator<Item = &mut [u32]> {
+        let flows = self.state[2] as usize;
+        let words = self.state[8..].chunks_mut(10).take(flows).map(|flow| &mut flow[4..8]);
+        words.filter(|bucket| bucket[2] == bucket[1])
+    }
+
     fn state_words(&self) -> usize {
         let [sx, sy, flows] = [0, 1, 2].map(|at| self.state[at] as usize);
         8 + 10 * flows + 8 * sx * sy
@@ -109,6 +116,31 @@ pub const FAULTS: &[(&str, Fault)] = &[
     }),
     ("8 where 9 comes first", |given| {
         given.answer = if given.answer >> 32 == 9 { 8 << 32 } else { given.answer }
+    }),
+    ("a counter that rests in a full bucket", |given| {
+        if given.stepped() {
+            given.full_buckets().for_each(|bucket| bucket[3] = 0);
+        }
+    }),
+    ("a token that finds its bucket full, kept", |given| {
+        if given.stepped() {
+            let round = given.full_buckets().filter(|bucket| bucket[3] == 0);
+            round.for_each(|bucket| bucket[2] += 1);
+        }
+    }),
+    ("a count that doesn't return where a token is lost", |given| {
+        if given.stepped() {
+            let round = given.full_buckets().filter(|bucket| bucket[3] == 0);
+            round.for_each(|bucket| bucket[3] = bucket[0] - 1);
+        }
+    }),
+    ("9 for a full bucket with a count", |given| {
+        if given.call == "offer"
+            && given.accepted()
+            && given.full_buckets().any(|bucket| bucket[3] > 0)
+        {
+            given.answer = 9 << 32;
+        }
     }),
     ("a byte past the file", |given| {
         if let Some(byte) = given.target.get_mut(given.answer as usize) {

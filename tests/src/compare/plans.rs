@@ -11,17 +11,22 @@ pub fn at_boundaries() -> Vec<Vec<u8>> {
     }
     files.extend(lengths());
     files.extend([1, 2, 3].map(wrapped_start));
-    files.extend([1, 2].map(|burst| last_window(burst).file(&[])));
+    files.extend([LAST_WINDOW, PAST_THE_LAST].map(|numbers| late_window(numbers).file(&[])));
     files
 }
 
-/// Flow 0's window is 65,535 with burst 1 of flow 2, and with burst 2 it would be one of 65,536 or
-/// more: eight rivals with periods 2, 4 to 256, each with spread 1.
-pub fn last_window(burst: i64) -> Plan {
-    let flow = |ys, period, burst| Flow::from_numbers([0, ys, 0, 1, period, burst]);
-    let mut flows = vec![flow(1, 1, 1), flow(0, 2, 255), flow(0, 4, burst)];
-    flows.extend((3..=8).map(|power| flow(0, 1 << power, 1)));
-    Plan { sx: 1, sy: 2, flows }
+/// A spread and a burst with which flow 0 of `late_window` has the window 65,535, and with which
+/// it would have 65,536.
+pub const LAST_WINDOW: (i64, i64) = (2, 247);
+pub const PAST_THE_LAST: (i64, i64) = (1, 248);
+
+/// Flow 0 has eight rivals with periods 2, 4 to 256: all with this spread, the first with this
+/// burst and the others with 1.
+pub fn late_window((spread, burst): (i64, i64)) -> Plan {
+    let flow = |ys, period, burst| Flow::from_numbers([0, ys, 0, spread, period, burst]);
+    let mut flows = vec![flow(spread, 1, 1), flow(0, 2, burst)];
+    flows.extend((2..=8).map(|power| flow(0, 1 << power, 1)));
+    Plan { sx: 1, sy: spread + 1, flows }
 }
 
 /// Three flows on a 5 by 3 torus, with notes.
