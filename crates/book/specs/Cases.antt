@@ -98,7 +98,8 @@ starred =
     ∷ tokens slow (offer 0 ∷ steps 9) 0
     ∷ tokens slow (offer 0 ∷ steps 10) 1
     -- not starred. U3: "A flow with P 10 and σ 1 may then enter in two neighbouring cycles", 9 and 10; after them it enters in cycle 20
-    ∷ delivers home (after 9 (offer 0 ∷ offer 0 ∷ offer 0 ∷ steps 12)) (exit 0 1 9 9 0 ∷ exit 0 2 10 10 0 ∷ exit 0 3 20 20 0 ∷ []) (2 ∷ 2 ∷ 2 ∷ [])
+    ∷ delivers home (after 9 (offer 0 ∷ offer 0 ∷ offer 0 ∷ steps 12)) (exit 0 1 9 9 0 ∷ exit 0 2 10 10 0 ∷ exit 0 3 20 20 0 ∷ [])
+    (2 ∷ 2 ∷ 2 ∷ [])
     -- U3: "a token that finds it full is lost"
     ∷ tokens home (steps 10) 1
     -- 01's slip: serial 2 of flow 0 leaves in cycle 2, serial 1 in cycle 5

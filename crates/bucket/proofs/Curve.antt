@@ -1,5 +1,6 @@
--- Laws of the curve: it never falls with the span, is at most burst and span together, keeps pace with one packet a period, and
--- counts what a bucket lets in. Rests on specs/Curve. Windows use these laws; only the starred cases, which compute, open the curve elsewhere.
+-- Laws of the curve: it never falls with the span, is at least the burst and at most burst and span together, keeps pace with one
+-- packet a period, and counts what a bucket lets in. Rests on specs/Curve. Windows use these laws; only the starred cases, which
+-- compute, open the curve elsewhere.
 use mathlib.Core.Logic.{_↔_}
 use mathlib.Core.Path.{_≡_}
 use Prim.Native.Nat.{ℕ, zero, suc, _+_, _-_, _*_, _/_, _%_, _≤_, _<_}
@@ -32,6 +33,10 @@ ceiling-most d (suc p) = ceiling-least d (suc p) d (omega arith) .1 (le-mul-of-p
 pub curve-span : (burst period : ℕ) {d e : ℕ} → d ≤ e → curve burst period d ≤ curve burst period e
 unfolding curve
 curve-span burst period h = omega (arith, ceiling-span period h)
+
+pub curve-least : (burst period d : ℕ) → burst ≤ curve burst period d
+unfolding curve
+curve-least burst period d = omega arith
 
 pub curve-most : (burst period d : ℕ) → curve burst period d ≤ burst + d
 unfolding curve

@@ -2,15 +2,16 @@
 use mathlib.Core.List.{List}
 use mathlib.Core.Logic.{_≢_}
 use mathlib.Core.Path.{_≡_, _∙_}
-use Prim.Native.Nat.{ℕ, _+_, _-_, _*_, _≤_, _<_}
+use Prim.Native.Nat.{ℕ, zero, suc, _+_, _-_, _*_, _≤_, _<_}
 use native.Mathlib.Decide.{decLe}
 use native.Mathlib.Omega.{arith}
 use lib.ListN.{length, getD, set, length-set}
 use lib.Seq.{getD-set-same, getD-set-other}
+use Rattle.laws.specs.Bounded.{sumBelow}
 use Rattle.laws.proofs.Sum.{sum-none, sum-more, sum-same, sum-mono, sum-most}
 use Rattle.flow.specs.declared.Flow.{Flow}
 use Rattle.flow.specs.Plan.{mostFlows, mostBurst}
-use Rattle.bucket.proofs.Curve.{curve-span, curve-most}
+use Rattle.bucket.proofs.Curve.{curve-span, curve-least, curve-most}
 use Rattle.conflict.specs.declared.Conflict.the-variants.{Spread}
 use Rattle.window.specs.Window.{share, mostWindow}
 use Rattle.conflict.specs.Inner.{mostSpread}
@@ -34,6 +35,14 @@ rival-most l t k ok h =
 pub demand-most : (l : List ℕ) (n t : ℕ) → ((k : ℕ) → k < n → RivalOk l k) → t ≤ mostWindow → demandOf l n t ≤ mostShare * n
 unfolding demandOf
 demand-most l n t ok h = sum-most _ mostShare n (λ k b. rival-most l t k (ok k b) h)
+
+-- each of n rivals adds its burst at least
+pub demand-least : (l : List ℕ) (n t : ℕ) → ((k : ℕ) → k < n → RivalOk l k) → n ≤ demandOf l n t
+unfolding demandOf rivalShare sumBelow
+demand-least l zero t ok = omega arith
+demand-least l (suc n) t ok =
+    let least = curve-least (getD l (rivalWords * n) 0) (getD l (rivalWords * n + 1) 0) (t - 1 + getD l (rivalWords * n + 2) 0) in
+    omega (arith, demand-least l n t (λ k b. ok k (omega arith)), ok n (omega arith) .burst-least)
 
 pub demand-none : (l : List ℕ) (t : ℕ) → demandOf l 0 t ≡ 0
 unfolding demandOf

@@ -70,12 +70,12 @@ fn fill_link(rivals: &[u32], n: usize) -> bool
     false
 }
 
-// The search for the least window. Where the rivals leave none at t, none is left up to their demand.
+// The search for the least window that rivals leave; 1 is none. Where they leave none at t, none is left up to their demand.
 fn search(rivals: &[u32], n: usize) -> Window
-    requires { ⌜ Rivals (now rivals) n ⌝ }
+    requires { ⌜ (Rivals (now rivals) n) × (1 ≤ n) ⌝ }
     ensures { λ r. ⌜ r ≡ leastFrom (demandOf (now (rivals .entry)) n) mostWindow 1 ⌝ }
 {
-    let mut t = 1u32;
+    let mut t = 2u32;
     loop {
         if MOST_WINDOW < t {
             break Window::Nothing;
@@ -88,11 +88,14 @@ fn search(rivals: &[u32], n: usize) -> Window
     }
 }
 
-// The least window that the n rivals leave. Where their rates fill the link there is none.
+// The least window that the n rivals leave. Without a rival it is 1, and where their rates fill the link there is none.
 pub fn least_window(rivals: &[u32], n: usize) -> Window
     requires { ⌜ Rivals (now rivals) n ⌝ }
     ensures { λ r. ⌜ r ≡ leastFrom (demandOf (now (rivals .entry)) n) mostWindow 1 ⌝ }
 {
+    if n == 0 {
+        return Window::At(1);
+    }
     if fill_link(rivals, n) {
         return Window::Nothing;
     }

@@ -1,11 +1,11 @@
--- `search`: no number below t is a window; where t is none, the leap skips none.
+-- `search`: no number below t is a window, and not 1 with a rival; where t is none, the leap skips none.
 use mathlib.Core.Path.{sym}
 use Prim.Native.Nat.{_+_, _-_, _≤_}
 use native.Mathlib.Omega.{arith}
 use Rattle.window.specs.Window.{mostWindow}
 use Rattle.window.specs.Rivals.{demandOf}
 use Rattle.window.proofs.Least.{Tried, least-at, least-none, leap}
-use Rattle.window.proofs.Rivals.{demand-time, demand-most}
+use Rattle.window.proofs.Rivals.{demand-time, demand-least, demand-most}
 use Rattle.window.proofs.search.Statement.{statement}
 use Rattle.window.proofs.search.Tie as tie
 
@@ -16,15 +16,17 @@ abbrev μ-loop : tie.MeasureT-loop
 μ-loop rivals n t₀ t = 1 + mostWindow - t
 
 loop-holds : tie.Need-loop-holds Inv-loop μ-loop
-loop-holds c = (omega arith, λ k l m. absurd (omega arith))
+loop-holds c =
+    let p = c .before .pre in
+    (omega arith, λ k l m. omega (arith, p .1, demand-least _ _ k (p .0 .rival-ok)))
 
 demand-of-requires : tie.Need-demand-of-requires Inv-loop μ-loop
-demand-of-requires c κs = (c .before .before .before .pre, (c .before .loop .inv .0, c .if1 .left))
+demand-of-requires c κs = (c .before .before .before .pre .0, (c .before .loop .inv .0, c .if1 .left))
 
 add-t : tie.Need-add-t Inv-loop μ-loop
 add-t c =
     let p = c .before .before .before .before .before .pre in
-    let most = demand-most _ _ _ (p .rival-ok) (c .before .before .if1 .left) in
+    let most = demand-most _ _ _ (p .0 .rival-ok) (c .before .before .if1 .left) in
     omega (arith, c .before .demand-of .ensures)
 
 loop-again : tie.Need-loop-again Inv-loop μ-loop
