@@ -1,4 +1,5 @@
-//! Windows and flight bounds, by 01's "Windows". The search goes t by t, with no leaps.
+//! Windows and flight bounds, by 01's "Windows" with U3's curve. The search goes t by t, with no
+//! leaps.
 
 use crate::plan::{Plan, Port, Refusal, read, refuse};
 

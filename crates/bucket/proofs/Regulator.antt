@@ -25,7 +25,8 @@ record Fitting (burst period : ℕ) (b : Bucket) : Type 0 where
   tokens-most : b .tokens ≤ burst
   count-below : b .count < period
 
--- b is a flow's bucket at clock c, c cycles after reset, and n a t is how often the flow entered in the cycles from a to t − 1
+-- b is a flow's bucket at clock c, c cycles after reset, and n a t is how often the flow entered in the cycles from a to t − 1.
+-- `filled`: an empty bucket has a count of 1 or more, which not every bucket that fits has
 pub record Regulated (burst period : ℕ) (b : Bucket) (c : ℕ) (n : ℕ → ℕ → ℕ) : Type 0 where
   burst-least : 1 ≤ burst
   fitting : Fitting burst period b

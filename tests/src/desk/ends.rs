@@ -176,7 +176,7 @@ fn interrupt(program: &Program) {
 7 1 1 4 4 0 0 5
 
 flow  offered  refused  left  waiting  flying  wait  wait-bound  spare  nearest  flight  flight-bound
-   0        2        0     1        1       0     0          10     10       10       3             3
+   0        2        0     1        1       0     0          11     11       11       3             3
    1        1        0     1        0       0     0           9      9        9       5             5
 ended at cycle 9: interrupted
 ";

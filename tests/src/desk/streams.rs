@@ -103,13 +103,14 @@ fn compare(
     assert_eq!(got.err.lines().count(), fault as usize, "{}", got.err);
 }
 
-/// More packets than may wait: some are refused, and the run goes on.
+/// More packets than may wait: some are refused, and the run goes on. It ends before a packet would
+/// enter, in a cycle in which none leaves.
 pub fn full_queue(program: &Program, tally: &mut Tally) {
     let plan = crate::slips::met_exactly().0;
     let mut entries = vec![Entry::Offer { cycle: 0, flow: 1 }; 65_540];
     entries.push(Entry::Offer { cycle: 40, flow: 0 });
     let text = "0 1\n".repeat(65_540) + "40 0\n";
-    let options = Options { cycles: Some(2000), recent: Some(16), summary: false };
+    let options = Options { cycles: Some(2004), recent: Some(16), summary: false };
     compare(program, tally, &plan, &entries, text.as_bytes(), options);
 }
 
