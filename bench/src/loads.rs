@@ -37,7 +37,7 @@ pub fn case(size: i64, flows: usize, load: Load) -> Case {
             Load::Light => Flow { xs, ys, xd, yd, period: 10 * count, burst: 1 },
             Load::Saturated => Flow { xs, ys, xd, yd, period: 1, burst: 2 },
             Load::Climbing => {
-                Flow { xs: 0, ys: 0, xd, yd, period: count, burst: climbing_burst(f, count) }
+                Flow { xs: 0, ys: 0, xd, yd, period: count, burst: climbing_burst(count) }
             }
         }
     };
@@ -45,10 +45,9 @@ pub fn case(size: i64, flows: usize, load: Load) -> Case {
     Case { size, flows, load, file: plan.file(&[]) }
 }
 
-/// With count − 1 rivals of period count, T is count × (their bursts − count + 2).
-fn climbing_burst(f: i64, count: i64) -> i64 {
-    let bursts = 65_535 / count + count - 2;
-    (bursts / count + (f < bursts % count) as i64).min(255)
+/// With count − 1 rivals of period count, T is count × their bursts + 1.
+fn climbing_burst(count: i64) -> i64 {
+    (65_534 / count / (count - 1)).min(255)
 }
 
 impl Case {

@@ -21,8 +21,8 @@ fn spread(file: &File, x: u32, y: u32, east: bool, g: [u32; 6]) -> Option<u32> {
     (r <= offset(ys, yd, file.sy)).then_some((r - 1) * file.sx)
 }
 
-/// The least window: 1 without a rival, else more; after a failed t the next to try is I(t) + 1,
-/// since I never falls. Where the rivals' rates fill the link there is none.
+/// The least window: after a failed t the next to try is I(t) + 1, since I never falls.
+/// Where the rivals' rates fill the link there is none.
 fn window(file: &File, f: usize) -> Option<u32> {
     let [x, y, xd, ..] = numbers(&file.records[f]);
     let mut rivals = [(0, 1); 256];
@@ -38,13 +38,10 @@ fn window(file: &File, f: usize) -> Option<u32> {
             rates += ((1 << 31) / flow[4]) as u64;
         }
     }
-    if count == 0 {
-        return Some(1);
-    }
     if rates >= 1 << 31 {
         return None;
     }
-    let mut t = 2;
+    let mut t = 1;
     while t <= 65_535 {
         let rate: u32 =
             rivals[..count].iter().map(|&(spread, period)| (t - 1 + spread).div_ceil(period)).sum();
