@@ -36,7 +36,7 @@ pub demand-most : (l : List ℕ) (n t : ℕ) → ((k : ℕ) → k < n → RivalO
 unfolding demandOf
 demand-most l n t ok h = sum-most _ mostShare n (λ k b. rival-most l t k (ok k b) h)
 
--- each of n rivals adds its burst at least
+-- n rivals add a packet each at least
 pub demand-least : (l : List ℕ) (n t : ℕ) → ((k : ℕ) → k < n → RivalOk l k) → n ≤ demandOf l n t
 unfolding demandOf rivalShare sumBelow
 demand-least l zero t ok = omega arith
