@@ -66,7 +66,7 @@ module _ (burst period : ℕ) where
         | no e ↦ rw (ne-eqb (b .count + 1) period e) (runs (omega (arith, h .count-below)) refl refl)
       ]
 
-  -- a bucket that fits, after the counter, after an entry or none, and after a cycle
+  -- a bucket that fits, after the counter, and after an entry or none
   counted-fits : (b r : Bucket) → Fitting burst period b → Counted burst period b r → Fitting burst period r
   counted-fits b r h (runs e t c) = record { tokens-most = omega (arith, h .tokens-most); count-below = omega arith }
   counted-fits b r h (gives e l t c) = record { tokens-most = omega arith; count-below = omega arith }
@@ -75,10 +75,6 @@ module _ (burst period : ℕ) where
   spent-fits : (e : Bool) (b : Bucket) → Fitting burst period b → Fitting burst period (cond e (afterSpend b) b)
   spent-fits true b h = record { tokens-most = omega (arith, h .tokens-most); count-below = h .count-below }
   spent-fits false b h = h
-
-  cycled-fits : (e : Bool) (b : Bucket) → Fitting burst period b → Fitting burst period (afterCycle burst period e b)
-  unfolding afterCycle
-  cycled-fits e b h = let spent = spent-fits e b h in counted-fits _ _ spent (counted _ spent)
 
   fill-most : (b : Bucket) → Fitting burst period b → fill period b < (burst + 1) * period
   fill-most b h = omega (arith, h .count-below, mul-le-mul-right period (h .tokens-most))
@@ -113,16 +109,20 @@ module _ (burst period : ℕ) where
       let some : 1 ≤ b .tokens = omega arith in
       record { fill-more = omega arith; filled = omega (arith, mul-le-mul-right period some) }
 
-  module _ (b : Bucket) (c : ℕ) (n : ℕ → ℕ → ℕ) (held : Regulated burst period b c n) where
-    cycled : (e : Bool) → (e ≡ true → 1 ≤ b .tokens) → Cycled e b (afterCycle burst period e b)
-    unfolding afterCycle
-    cycled true token =
-        let some : 1 ≤ b .tokens = token refl in
-        let ran′ = ran (held .burst-least) (afterSpend b) _ (counted (afterSpend b) (spent-fits true b (held .fitting))) in
-        let spent : b .tokens * period ≡ (b .tokens - 1 + 1) * period = ap (λ (x : ℕ). x * period) (omega arith) in
-        record { fill-more = omega (arith, ran′ .fill-more); filled = ran′ .filled }
-    cycled false token = ran (held .burst-least) b _ (counted b (held .fitting))
+  cycled : 1 ≤ burst → (e : Bool) (b : Bucket) → Fitting burst period b → (e ≡ true → 1 ≤ b .tokens) → Cycled e b (afterCycle burst period e b)
+  unfolding afterCycle
+  cycled least true b h token =
+      let some : 1 ≤ b .tokens = token refl in
+      let ran′ = ran least (afterSpend b) _ (counted (afterSpend b) (spent-fits true b h)) in
+      let spent : b .tokens * period ≡ (b .tokens - 1 + 1) * period = ap (λ (x : ℕ). x * period) (omega arith) in
+      record { fill-more = omega (arith, ran′ .fill-more); filled = ran′ .filled }
+  cycled least false b h token = ran least b _ (counted b h)
 
+  cycled-fits : (e : Bool) (b : Bucket) → Fitting burst period b → Fitting burst period (afterCycle burst period e b)
+  unfolding afterCycle
+  cycled-fits e b h = let spent = spent-fits e b h in counted-fits _ _ spent (counted _ spent)
+
+  module _ (b : Bucket) (c : ℕ) (n : ℕ → ℕ → ℕ) (held : Regulated burst period b c n) where
     -- a cycle, and the entries so far with the one of this cycle
     pub cycle : (e : Bool) → (e ≡ true → 1 ≤ b .tokens) → (n′ : ℕ → ℕ → ℕ)
         → ((a t : ℕ) → t ≤ c → n′ a t ≡ n a t) → ((a : ℕ) → a ≤ c → n′ a (c + 1) ≡ n a c + one e) → n′ (c + 1) (c + 1) ≡ 0
@@ -131,7 +131,7 @@ module _ (burst period : ℕ) where
         record { burst-least = held .burst-least; fitting = after; filled = r .filled; so-far = far; before = past }
       where
         r : Cycled e b (afterCycle burst period e b)
-        r = cycled e token
+        r = cycled (held .burst-least) e b (held .fitting) token
 
         after : Fitting burst period (afterCycle burst period e b)
         after = cycled-fits e b (held .fitting)
@@ -208,9 +208,8 @@ module _ (burst period : ℕ) where
   pub fitting-count : (b : Bucket) → bucketFits burst period b ≡ true → b .count < period
   fitting-count b e = fitting b e .count-below
 
-  pub cycle-fits : (e : Bool) (b : Bucket) → bucketFits burst period b ≡ true → (e ≡ true → 1 ≤ b .tokens)
-      → bucketFits burst period (afterCycle burst period e b) ≡ true
-  cycle-fits e b h token = fitting-fits _ (cycled-fits e b (fitting b h))
+  pub cycle-fits : (e : Bool) (b : Bucket) → bucketFits burst period b ≡ true → bucketFits burst period (afterCycle burst period e b) ≡ true
+  cycle-fits e b h = fitting-fits _ (cycled-fits e b (fitting b h))
 
   -- the bucket at reset
   pub full-fits : 1 ≤ period → bucketFits burst period (fullBucket burst) ≡ true

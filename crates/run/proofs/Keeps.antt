@@ -5,7 +5,7 @@ use mathlib.Core.List.{List}
 use mathlib.Core.Path.{_≡_, refl, sym, ap, subst, _∙_}
 use Prim.Native.Nat.{ℕ, _+_, _-_, _≤_, _<_}
 use native.Mathlib.Omega.{arith}
-use borrow.Author.Tests.{lt-ltb, le-leb, ltb-true}
+use borrow.Author.Tests.{lt-ltb, le-leb}
 use lib.ListN.{length}
 use Rattle.laws.specs.Count.{one}
 use Rattle.laws.proofs.Cases.{and-true}
@@ -26,7 +26,6 @@ use Rattle.router.specs.Delivery.{wordsOf}
 use Rattle.router.proofs.Links.{feeder-on, reach-feeder}
 use Rattle.router.proofs.Path.{OnPath, entered-before}
 use Rattle.router.proofs.InPlace.{path-in-place}
-use Rattle.router.proofs.Entrant.{entering-ready}
 use Rattle.state.specs.declared.Register.{Register}
 use Rattle.state.specs.declared.Register.the-variants.{Empty, Packet}
 use Rattle.state.specs.declared.Tally.{Tally}
@@ -41,18 +40,13 @@ use Rattle.state.proofs.Read.{plan-read}
 use Rattle.state.proofs.View.{view-plan}
 use Rattle.state.proofs.Forms.{tally-facts}
 use Rattle.state.proofs.Formed.{registerOk, StateOk, words-form, state-fits}
-use Rattle.cycle.specs.Seen.{view, enters}
+use Rattle.cycle.specs.Seen.{enters}
 use Rattle.cycle.specs.Step.{carried, nextRegister, nextCell, nextTally, stepState, deliveries, stepOn}
 use Rattle.run.proofs.Carried.{Carries, carried-routed}
 
 module _ (s : State) (ok : StateOk s) where
   abbrev p : Plan
   p = s .plan
-
-  -- a flow that enters has a token
-  entering-token : (f : ℕ) → enters s f ≡ true → 1 ≤ (tallyAt s f) .bucket .tokens
-  unfolding enters
-  entering-token f e = ltb-true 0 _ (entering-ready p (view s) f e .token)
 
   next-tally-fits : (f : ℕ) → f < length (p .flows) → tallyFits (s .clock + 1) (flowAt p f) (nextTally s f) ≡ true
   unfolding tallyFits nextTally
@@ -62,7 +56,7 @@ module _ (s : State) (ok : StateOk s) where
       let old = tally-facts (s .clock) φ t (ok .tally-ok f l) in
       let bucket = and-true _ _ (and-true _ _ (ok .tally-ok f l) .0) .0 in
       rw (
-        cycle-fits (φ .burst) (φ .period) (enters s f) (t .bucket) bucket (entering-token f),
+        cycle-fits (φ .burst) (φ .period) (enters s f) (t .bucket) bucket,
         le-leb (t .waiting - one (enters s f)) mostWaiting (omega (arith, old .waiting-most)),
         le-leb (t .entered + one (enters s f)) (s .clock + 1) (omega (arith, old .entered-most, one-most (enters s f))),
       )

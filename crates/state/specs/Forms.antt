@@ -32,7 +32,7 @@ numbersFit sx sy f =
     && (leb 1 (f .period) && leb (f .period) mostPeriod)
     && (leb 1 (f .burst) && leb (f .burst) mostBurst)
 
--- tokens and count as the regulator has it; waiting ≤ 65,535; entered ≤ clock
+-- the regulator's conditions on tokens and count; waiting ≤ 65,535; entered ≤ clock
 unfoldable pub tallyFits : (clock : ℕ) → Flow → Tally → Bool
 tallyFits clock f t =
     bucketFits (f .burst) (f .period) (t .bucket) && leb (t .waiting) mostWaiting && leb (t .entered) clock
