@@ -2,10 +2,10 @@
  *
  * Memory is lent as a pointer and a count of its elements. The pointer is not null, even for a count of 0.
  * Memories lent to one call don't overlap: hrt_reset's plan and state, hrt_step's state and delivery, hrt_recent's records and
- * its state or deliveries, hrt_write's target and its state or notes lie apart. Only what is merely read may overlap, as
- * hrt_write's state and notes.
+ * its state or deliveries, hrt_write's target and its state or notes, hrt_offer_set's state and flows lie apart. Only what is
+ * merely read may overlap, as hrt_write's state and notes.
  * The functions have no memory of their own. Calls may run at once, in several threads, if what one of them writes is lent to
- * no other: all may read one plan, and a state is in one hrt_reset, hrt_offer or hrt_step at a time.
+ * no other: all may read one plan, and a state is in one hrt_reset, hrt_offer, hrt_offer_set or hrt_step at a time.
  *
  * A refused call changes nothing that was lent to it.
  * hrt_window answers the window T, 1 to 65,535, or 65,536 + the refusal number.
@@ -57,6 +57,12 @@ uint64_t hrt_reset(const uint8_t *plan, size_t plan_bytes, uint32_t *state, size
 
 /* Offers one packet of a flow. Answers 0. */
 uint64_t hrt_offer(uint32_t *state, size_t state_words, uint32_t flow);
+
+/* Offers one packet for each entry of a list of flows, of any length and in any order; a flow named twice gets two. Either all
+ * are accepted or none is. The first entry that would be refused, counting the entries before it as already added, gives its
+ * number, 12 or 13, and its position in the list, from 0, as the place. An empty list is accepted and changes nothing; no state
+ * is refused with 8 or 9 all the same. Answers 0. */
+uint64_t hrt_offer_set(uint32_t *state, size_t state_words, const uint32_t *flows, size_t flow_count);
 
 /* One cycle. Answers the number of exits, for each of which it delivers five words: flow, serial, entry cycle, exit cycle,
  * deflections. The delivery memory has at least HRT_DELIVERY_WORDS(Sx, Sy) words. */

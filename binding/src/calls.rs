@@ -19,6 +19,12 @@ mod raw {
             state_words: usize,
         ) -> u64;
         pub fn hrt_offer(state: *mut u32, state_words: usize, flow: u32) -> u64;
+        pub fn hrt_offer_set(
+            state: *mut u32,
+            state_words: usize,
+            flows: *const u32,
+            flow_count: usize,
+        ) -> u64;
         pub fn hrt_step(
             state: *mut u32,
             state_words: usize,
@@ -73,6 +79,14 @@ pub fn reset(plan: &[u8], state: &mut [u32]) -> u64 {
 #[inline]
 pub fn offer(state: &mut [u32], flow: u32) -> u64 {
     unsafe { raw::hrt_offer(state.as_mut_ptr(), state.len(), flow) }
+}
+
+/// Offers one packet for each entry of a list of flows, all or none. Answers 0.
+#[inline]
+pub fn offer_set(state: &mut [u32], flows: &[u32]) -> u64 {
+    unsafe {
+        raw::hrt_offer_set(state.as_mut_ptr(), state.len(), flows.as_ptr(), flows.len())
+    }
 }
 
 /// One cycle. Answers the number of exits, for each of which it delivers five words.

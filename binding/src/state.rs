@@ -107,6 +107,14 @@ impl State {
         Answer::of(calls::offer(&mut self.words, flow))
     }
 
+    /// Offers one packet for each entry of a list of flows, before the step of this cycle: all are
+    /// accepted or none is. The place of refusals 12 and 13 is the position of the first entry that
+    /// would be refused, the entries before it being counted.
+    #[inline]
+    pub fn offer_set(&mut self, flows: &[u32]) -> Answer {
+        Answer::of(calls::offer_set(&mut self.words, flows))
+    }
+
     /// One cycle: the packets that leave, routers by row, then column. Refusal 11.
     #[inline]
     pub fn step(&mut self) -> Result<impl ExactSizeIterator<Item = Delivery> + '_, Refusal> {
@@ -238,6 +246,20 @@ mod tests {
         let mut kept = state.words().to_vec();
         kept.resize(4616, 7);
         assert_eq!(State::of_words(kept), Ok(state));
+    }
+
+    #[test]
+    fn a_set_is_offered_whole_or_not() {
+        let mut state = State::fresh(4, 4, &[FLOW, FLOW]).unwrap();
+        assert_eq!(state.offer_set(&[]), Answer::Done(0));
+        assert_eq!(state.offer_set(&[1, 0, 1]), Answer::Done(0));
+        assert_eq!((state.waiting(0), state.waiting(1)), (1, 2));
+        let before = state.clone();
+        let unknown = Answer::Refused(Refusal { number: 12, place: 2 });
+        assert_eq!(state.offer_set(&[0, 1, 2, 3]), unknown);
+        let full = Answer::Refused(Refusal { number: 13, place: 65_533 });
+        assert_eq!(state.offer_set(&[1; 65_534]), full);
+        assert_eq!(state, before);
     }
 
     #[test]
