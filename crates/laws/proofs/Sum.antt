@@ -1,6 +1,8 @@
 -- Laws of sums over the numbers below a bound. Rests on specs/Bounded.
-use mathlib.Core.Path.{_≡_, refl}
+use mathlib.Core.Logic.{inl, inr, _≢_}
+use mathlib.Core.Path.{_≡_, refl, sym, ap}
 use Prim.Native.Nat.{ℕ, zero, suc, _+_, _*_, _≤_, _<_}
+use native.Mathlib.Nat.{eq-or-lt-of-le, le-of-suc-le-suc}
 use native.Mathlib.Numerals.{add-one}
 use native.Mathlib.Omega.{arith}
 use Rattle.laws.specs.Bounded.{sumBelow}
@@ -30,3 +32,17 @@ pub sum-most : (f : ℕ → ℕ) (c n : ℕ) → ((i : ℕ) → i < n → f i �
 unfolding sumBelow
 sum-most f c zero h = omega arith
 sum-most f c (suc n) h = omega (arith, sum-most f c n (λ i l. h i (omega arith)), h n (omega arith))
+
+-- one term one larger, all others the same
+pub sum-one : (f g : ℕ → ℕ) (n k : ℕ) → k < n → g k ≡ f k + 1 → ((i : ℕ) → i < n → i ≢ k → g i ≡ f i) → sumBelow n g ≡ sumBelow n f + 1
+unfolding sumBelow
+sum-one f g zero k l here others = absurd (omega arith)
+sum-one f g (suc n) k l here others =
+    elim (eq-or-lt-of-le (le-of-suc-le-suc l)) [
+      | inl same ↦
+          let rest = sum-same f g n (λ i h. sym (others i (omega arith) (λ e. omega arith))) in
+          omega (arith, rest, ap f same, ap g same)
+      | inr below ↦
+          let rest = sum-one f g n k below here (λ i h. others i (omega arith)) in
+          omega (arith, rest, others n (omega arith) (λ e. omega arith))
+    ]

@@ -17,12 +17,17 @@ module _ {A : Type 0} where
   unfolding turns
   turns-more n step a b e = rw (add-one, e)
 
+  -- what each of these turns keeps
+  pub turns-along : (n : ℕ) (step : ℕ → A → A) (a : A) (Ok : A → Type 0)
+      → ((i : ℕ) → i < n → Ok (turns i step a) → Ok (step i (turns i step a))) → (m : ℕ) → m ≤ n → Ok a → Ok (turns m step a)
+  unfolding turns
+  turns-along n step a Ok keeps zero l ok = ok
+  turns-along n step a Ok keeps (suc m) l ok = keeps m l (turns-along n step a Ok keeps m (omega arith) ok)
+
   module _ (n : ℕ) (step : ℕ → A → A) (Ok : A → Type 0) (keeps : (i : ℕ) (a : A) → i < n → Ok a → Ok (step i a)) where
-    -- what every turn keeps
+    -- what every turn keeps, from wherever it begins
     pub turns-keep : (m : ℕ) (a : A) → m ≤ n → Ok a → Ok (turns m step a)
-    unfolding turns
-    turns-keep zero a l ok = ok
-    turns-keep (suc m) a l ok = keeps m (turns m step a) l (turns-keep m a (omega arith) ok)
+    turns-keep m a l ok = turns-along n step a Ok (λ i h. keeps i (turns i step a) h) m l ok
 
     -- turn i fills slot i and leaves every other slot: after all turns each slot is filled
     pub turns-fill : (Holds : ℕ → A → Type 0)
