@@ -1,6 +1,6 @@
 -- Laws of answers: a refusal comes first, and the first refused place is the one answered. Rests on specs/Refusals.
 use mathlib.Core.Logic.{inl, inr}
-use mathlib.Core.Path.{_≡_, refl}
+use mathlib.Core.Path.{_≡_, refl, sym, ap, _∙_}
 use Prim.Native.Nat.{ℕ, zero, suc, _+_, _<_}
 use native.Mathlib.Nat.{eq-or-lt-of-le, le-of-suc-le-suc}
 use native.Mathlib.Numerals.{add-one}
@@ -20,6 +20,12 @@ answer-refused (suc n) place h = refl
 pub answer-done : (n place v : ℕ) → answerBy n place ≡ Done v → n ≡ 0
 answer-done zero place v e = refl
 answer-done (suc n) place v e = absurd (refused-done (suc n) place v e)
+
+pub answer-at : (n place m at : ℕ) → answerBy n place ≡ Refused m at → (n ≡ m) × (at ≡ place) × (m ≡ 0 → ⊥)
+answer-at zero place m at e = absurd (refused-done m at 0 (sym e))
+answer-at (suc n) place m at e =
+    let same : suc n ≡ m = cc in
+    (same, cc, λ none. omega arith)
 
 -- a call whose parts are all accepted
 pub or-else-done : (a later : Answer) (v : ℕ) → refusedOr a later ≡ Done v → (w : ℕ) × (a ≡ Done w) × (later ≡ Done v)
@@ -44,6 +50,12 @@ module _ (number : ℕ → ℕ) where
         | inr below ↦ rw (← (first-at n i below earlier here))
       ]
 
+  -- none is refused where every number is 0
+  pub first-all : (n : ℕ) → ((i : ℕ) → i < n → number i ≡ 0) → firstRefused number n ≡ Done 0
+  unfolding firstRefused
+  first-all zero h = refl
+  first-all (suc n) h = rw (first-all n (λ i l. h i (omega arith)), h n (omega arith))
+
   -- where none is refused, every number is 0
   pub first-done : (n v : ℕ) → firstRefused number n ≡ Done v → (i : ℕ) → i < n → number i ≡ 0
   unfolding firstRefused
@@ -54,3 +66,24 @@ module _ (number : ℕ → ℕ) where
         | inl same ↦ rw same (answer-done (number n) n v (parts .2))
         | inr below ↦ first-done n (parts .0) (parts .1) i below
       ]
+
+  -- the place that is answered has that number, and those before it have 0
+  pub record FirstAt (n m at : ℕ) : Type 0 where
+    pub below : at < n
+    pub here : number at ≡ m
+    pub some : m ≡ 0 → ⊥
+    pub earlier : (i : ℕ) → i < at → number i ≡ 0
+
+  pub first-refused : (n m at : ℕ) → firstRefused number n ≡ Refused m at → FirstAt n m at
+  unfolding firstRefused
+  first-refused zero m at e = absurd (refused-done m at 0 (sym e))
+  first-refused (suc n) m at e = by (firstRefused number n) refl e (first-refused n m at)
+    where
+      by : (a : Answer) → firstRefused number n ≡ a → refusedOr a (answerBy (number n) n) ≡ Refused m at
+          → (firstRefused number n ≡ Refused m at → FirstAt n m at) → FirstAt (suc n) m at
+      by (Done v) q d found =
+          let last = answer-at (number n) n m at d in
+          record { below = omega arith; here = ap number (last .1) ∙ last .0; some = last .2; earlier = λ i l. first-done n v q i (omega arith) }
+      by (Refused k place) q d found =
+          let f = found (q ∙ d) in
+          record { below = omega (arith, f .below); here = f .here; some = f .some; earlier = f .earlier }

@@ -1,7 +1,7 @@
 -- What an accepted reset leaves: words that form a state, with the file's plan. Rests on the laws of a state's words.
 use mathlib.Core.Bool.{true}
 use mathlib.Core.List.{List}
-use mathlib.Core.Path.{_≡_, refl, ap}
+use mathlib.Core.Path.{_≡_, ap}
 use Prim.Native.Nat.{ℕ, _≤_, _<_}
 use native.Mathlib.Decide.{decLe}
 use native.Mathlib.Omega.{arith}
@@ -11,8 +11,7 @@ use Rattle.laws.proofs.Stands.{Stands, stands-first}
 use Rattle.flow.specs.Plan.{Plan, flowAt}
 use Rattle.flow.specs.Ranges.{PlanOk}
 use Rattle.bucket.proofs.Regulator.{full-fits}
-use Rattle.plan.specs.declared.Answer.{Answer}
-use Rattle.plan.specs.declared.Answer.the-variants.{Done, Refused}
+use Rattle.plan.specs.declared.Answer.the-variants.{Done}
 use Rattle.file.specs.Layout.{planOf}
 use Rattle.plan.specs.Refusals.{planAnswer}
 use Rattle.plan.proofs.Refusals.{refused-done}
@@ -22,9 +21,10 @@ use Rattle.state.specs.State.{freshTally, resetState}
 use Rattle.state.specs.Words.{stateWords}
 use Rattle.state.specs.Read.{planIn}
 use Rattle.state.specs.Forms.{tallyFits, stateNumber}
-use Rattle.state.specs.Outcome.{Outcome, unlessRefused, over}
+use Rattle.state.specs.Outcome.{unlessRefused, over}
 use Rattle.state.specs.Layout.{planSize}
 use Rattle.state.specs.Reset.{resetOn, freshOn}
+use Rattle.state.proofs.Over.{unless-refused-done}
 use Rattle.state.proofs.Read.{plan-read}
 use Rattle.state.proofs.Formed.{StateOk, registerOk, words-form}
 use Rattle.reset.proofs.Fresh.{fresh-tally, empty-cell}
@@ -50,12 +50,6 @@ pub record ResetDone (file memory : List ℕ) : Type 0 where
   pub file-done : planAnswer file ≡ Done value
   pub long : planSize (planOf file) ≤ length memory
 
-done-parts : (a : Answer) (memory : List ℕ) (o : Outcome Answer (List ℕ)) → (unlessRefused a memory o) .answer ≡ Done 0
-    → (v : ℕ) × (a ≡ Done v) × (o .answer ≡ Done 0)
-unfolding unlessRefused
-done-parts (Done v) memory o e = (v, refl, e)
-done-parts (Refused n place) memory o e = absurd (refused-done n place 0 e)
-
 done-long : (p : Plan) (memory : List ℕ) → (freshOn p memory) .answer ≡ Done 0 → planSize p ≤ length memory
 done-long p memory e =
     elim (decLe (planSize p) (length memory)) [
@@ -66,7 +60,7 @@ done-long p memory e =
 pub reset-done : (file memory : List ℕ) → (resetOn file memory) .answer ≡ Done 0 → ResetDone file memory
 unfolding resetOn
 reset-done file memory e =
-    let parts = done-parts (planAnswer file) memory (freshOn (planOf file) memory) e in
+    let parts = unless-refused-done (planAnswer file) memory (freshOn (planOf file) memory) 0 e in
     record { value = parts .0; file-done = parts .1; long = done-long (planOf file) memory (parts .2) }
 
 module _ (file memory : List ℕ) (bytes : Bytes file) (e : (resetOn file memory) .answer ≡ Done 0) where

@@ -1,6 +1,6 @@
 -- Laws of memory whose leading part is written anew, part by part, and of refusals. Rests on specs/Outcome.
 use mathlib.Core.List.{List}
-use mathlib.Core.Path.{_≡_, refl, _∙_}
+use mathlib.Core.Path.{_≡_, refl, sym, _∙_}
 use Prim.Native.Nat.{ℕ, zero, suc, _≤_}
 use native.Mathlib.Nat.{zero-add}
 use native.Mathlib.Omega.{arith}
@@ -8,9 +8,9 @@ use lib.ListN.{length, drop}
 use lib.Seq.{sets, sets-eq}
 use Rattle.laws.proofs.Stands.{Stands, stands-start}
 use Rattle.plan.specs.declared.Answer.{Answer}
-use Rattle.plan.specs.declared.Answer.the-variants.{Done}
+use Rattle.plan.specs.declared.Answer.the-variants.{Done, Refused}
 use Rattle.plan.proofs.Refusals.{refused-done}
-use Rattle.state.specs.Outcome.{Outcome, refused, unless, over}
+use Rattle.state.specs.Outcome.{Outcome, refused, unless, unlessRefused, over}
 
 -- a run of stores from the start
 pub over-sets : (part memory : List ℕ) → length part ≤ length memory → sets memory 0 part ≡ over part memory
@@ -36,3 +36,16 @@ pub unless-done : {M : Type 0} (n : ℕ) (memory : M) (o : Outcome Answer M) (v 
 unfolding unless
 unless-done zero memory o v e = (refl, refl)
 unless-done (suc n) memory o v e = absurd (refused-done _ _ _ e)
+
+-- what a first answer tells: an accepted call passed it, and one that is accepted otherwise has its refusal from there
+pub unless-refused-done : {M : Type 0} (a : Answer) (memory : M) (o : Outcome Answer M) (v : ℕ) → (unlessRefused a memory o) .answer ≡ Done v
+    → (w : ℕ) × (a ≡ Done w) × (o .answer ≡ Done v)
+unfolding unlessRefused
+unless-refused-done (Done w) memory o v e = (w, refl, e)
+unless-refused-done (Refused n place) memory o v e = absurd (refused-done n place v e)
+
+pub unless-refused-by : {M : Type 0} (a : Answer) (memory : M) (o : Outcome Answer M) (v n place : ℕ) → o .answer ≡ Done v
+    → (unlessRefused a memory o) .answer ≡ Refused n place → a ≡ Refused n place
+unfolding unlessRefused
+unless-refused-by (Done w) memory o v n place d e = absurd (refused-done n place v (sym e ∙ d))
+unless-refused-by (Refused m at) memory o v n place d e = e
