@@ -2,4 +2,5 @@
 pub mod Seen
 pub mod Step
 pub mod Offer
+pub mod Set
 pub mod Sent

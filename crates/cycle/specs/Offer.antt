@@ -12,16 +12,20 @@ use Rattle.state.specs.Read.{stateOf}
 use Rattle.state.specs.Forms.{stateNumber}
 use Rattle.state.specs.Outcome.{Outcome, outcome, unless, over}
 
--- one more waiting, and nothing else
-unfoldable pub offerState : State → (flow : ℕ) → State
-offerState s flow =
+-- so many packets of the flow waiting, and nothing else changed
+abbrev pub withWaiting : State → (flow waiting : ℕ) → State
+withWaiting s flow waiting =
     let t : Tally = tallyAt s flow in
     record {
       plan = s .plan;
       clock = s .clock;
-      tallies = set (s .tallies) flow (record { bucket = t .bucket; entered = t .entered; waiting = t .waiting + 1 });
+      tallies = set (s .tallies) flow (record { bucket = t .bucket; entered = t .entered; waiting = waiting });
       cells = s .cells;
     }
+
+-- one more waiting, and nothing else
+unfoldable pub offerState : State → (flow : ℕ) → State
+offerState s flow = withWaiting s flow ((tallyAt s flow) .waiting + 1)
 
 -- an offer: state, 12, 13; otherwise one more waiting
 unfoldable pub offerOn : (words : List ℕ) → (flow : ℕ) → Outcome Answer (List ℕ)

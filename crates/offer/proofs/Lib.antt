@@ -1,2 +1,2 @@
--- The words that an offer leaves.
+-- The words with so many packets waiting.
 pub mod Waits

@@ -8,25 +8,35 @@ ghost use Rattle.state.specs.Read.{stateOf};
 ghost use Rattle.state.specs.Outcome.{outcome, over};
 ghost use Rattle.state.specs.State.{tallyAt};
 ghost use Rattle.state.specs.Facts.{StateFacts, StateFlow};
-ghost use Rattle.cycle.specs.Offer.{offerOn, offerState};
+ghost use Rattle.cycle.specs.Offer.{withWaiting, offerState, offerOn};
+
+// So many packets of flow f wait.
+pub fn put_waiting(state: &mut [u32], f: u32, waiting: u32)
+    requires { ⌜ StateFlow (now state) f ⌝ }
+    ensures { λ _. ⌜ now (state .exit) ≡ over (stateWords (withWaiting (stateOf (now (state .entry))) f waiting)) (now (state .entry)) ⌝ }
+{
+    let t = cycle::tally_at(state, f);
+    let bucket = t.bucket;
+    let entered = t.entered;
+    let tally = Tally {
+        bucket,
+        entered,
+        waiting,
+    };
+    state::put_tally(state, state::flow_place(f as usize), tally);
+}
 
 // A packet more waits at flow f.
-fn wait_more(state: &mut [u32], f: u32)
+pub fn wait_more(state: &mut [u32], f: u32)
     requires { ⌜ StateFlow (now state) f ⌝ }
     ensures { λ _. ⌜ now (state .exit) ≡ over (stateWords (offerState (stateOf (now (state .entry))) f)) (now (state .entry)) ⌝ }
 {
     let t = cycle::tally_at(state, f);
-    let bucket = t.bucket;
-    let more = Tally {
-        bucket,
-        entered: t.entered,
-        waiting: t.waiting + 1,
-    };
-    state::put_tally(state, state::flow_place(f as usize), more);
+    put_waiting(state, f, t.waiting + 1);
 }
 
 // The refusal of an offer after the state's own, or 0.
-fn offer_number(state: &[u32], f: u32) -> u32
+pub fn offer_number(state: &[u32], f: u32) -> u32
     requires { ⌜ StateFacts (now state) ⌝ }
     ensures { λ r. ⌜ r ≡ offerNumber ((stateOf (now (state .entry))) .plan) f ((tallyAt (stateOf (now (state .entry))) f) .waiting) ⌝ }
 {

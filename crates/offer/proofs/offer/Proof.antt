@@ -1,18 +1,14 @@
 -- `offer`: a refusal by the state's number or the offer's, or one more waiting.
 use mathlib.Core.Path.{_≡_, refl, sym, _∙_}
-use mathlib.Core.Bool.{cond}
 use mathlib.Core.List.{List}
 use Prim.Native.Nat.{ℕ, _<_}
 use borrow.Author.Needs.{needs}
-use borrow.Author.Tests.{leb-false}
-use lib.Dec.{leb}
-use lib.ListN.{length}
-use Rattle.laws.proofs.Cases.{passed}
-use Rattle.flow.specs.Limits.{mostWaiting, offerNumber}
+use Rattle.flow.specs.Limits.{offerNumber}
+use Rattle.flow.proofs.Limits.{offer-passes}
 use Rattle.state.specs.State.{tallyAt}
 use Rattle.state.specs.Read.{countIn, stateOf}
 use Rattle.state.specs.Forms.{stateNumber}
-use Rattle.state.proofs.View.{view-plan, view-count}
+use Rattle.state.proofs.View.{counted}
 use Rattle.state.proofs.Forms.{state-facts}
 use Rattle.state.proofs.Over.{unless-passes, unless-refuses}
 use Rattle.cycle.specs.Offer.{offerOn}
@@ -21,11 +17,7 @@ use Rattle.offer.proofs.offer.Tie as tie
 
 -- the flow is one of the plan where 12 isn't given
 named : (w : List ℕ) (f waiting : ℕ) → offerNumber ((stateOf w) .plan) f waiting ≡ 0 → f < countIn w
-unfolding offerNumber
-named w f waiting e =
-    let flows = length ((stateOf w) .plan .flows) in
-    let below = leb-false flows f (passed (leb flows f) 11 (cond (leb mostWaiting waiting) 13 0) e .0) in
-    rw (view-plan w, view-count w) at below
+named w f waiting e = rw (counted w) at (offer-passes ((stateOf w) .plan) f waiting e .0)
 
 returns : tie.Need-returns
 unfolding offerOn
