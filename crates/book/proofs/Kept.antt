@@ -1,29 +1,34 @@
 -- What every list of calls keeps: the paths, queues, buckets, places and paces of the book, and the bounds of its numbers.
 -- Rests on the files that keep each of them through an offer and a step.
-use mathlib.Core.Bool.{Bool, true}
+use mathlib.Core.Bool.{Bool, true, cond}
 use mathlib.Core.List.{List, [], _∷_}
-use mathlib.Core.Logic.{inl, inr, _≢_}
-use mathlib.Core.Path.{_≡_, ap}
+use mathlib.Core.Logic.{_≢_}
+use mathlib.Core.Path.{_≡_, refl, ap, _∙_}
 use Prim.Native.Nat.{ℕ, suc, _+_, _≤_, _<_}
 use native.Mathlib.Nat.{le-trans}
 use native.Mathlib.Decide.{ℕ-discrete}
 use native.Mathlib.Omega.{arith}
-use borrow.Author.Tests.{leb-false, eqb-false, ne-eqb}
-use lib.Dec.{ltb, leb, eqb}
-use lib.ListN.{length}
+use borrow.Author.Tests.{eqb-false, ne-eqb}
+use lib.Dec.{ltb, eqb}
+use lib.ListN.{length, getD}
 use Rattle.laws.specs.Count.{count}
-use Rattle.laws.proofs.Cases.{test, and-true}
+use Rattle.laws.proofs.Cases.{and-true, passed}
+use Rattle.laws.proofs.Turns.{turns-along}
 use Rattle.laws.proofs.Count.{one-most, count-map, count-append, count-mono}
 use Rattle.flow.specs.Plan.{Plan, flowAt}
 use Rattle.flow.specs.Ranges.{PlanOk}
 use Rattle.window.specs.Window.{interference}
 use Rattle.router.specs.Delivery.{Delivery}
 use Rattle.book.specs.Line.{Line, isWaiting}
-use Rattle.book.specs.Book.{Book, ofFlow, waitsFor, waitingOf, enteredOf, start, offered, offeredLine}
+use Rattle.book.specs.Book.{Book, ofFlow, waitsFor, waitingOf, enteredOf, start, offered, offeredFirst, offeredLine}
 use Rattle.book.specs.Cycle.{enters, move, stepped}
 use Rattle.flow.specs.Limits.{roomFor, lastClock, mostWaiting, offerNumber, stepNumber}
-use Rattle.plan.specs.declared.Answer.the-variants.{Refused}
-use Rattle.book.specs.Feed.{Call, offer, step, refusal, Fed, accepted, feed, runFrom, run}
+use Rattle.flow.proofs.Limits.{offer-passes}
+use Rattle.plan.specs.declared.Answer.{Answer}
+use Rattle.plan.specs.declared.Answer.the-variants.{Done, Refused}
+use Rattle.plan.specs.Set.{setNumber}
+use Rattle.plan.proofs.Refusals.{answer-done, first-done}
+use Rattle.book.specs.Feed.{Call, offer, offerSet, step, refusal, Fed, accepted, judged, feed, runFrom, run}
 use Rattle.book.proofs.Moves.{turn, waited}
 use Rattle.book.proofs.Queue.{entered-step, entered-offer}
 use Rattle.book.proofs.Spans.{Lawful, lawful-start, lawful-offer, lawful-step}
@@ -40,28 +45,36 @@ pub record Kept (p : Plan) (b : Book) : Type 0 where
   pub waiting-most : (f : ℕ) → waitingOf b f ≤ mostWaiting
   pub entered-most : (f : ℕ) → enteredOf b f ≤ b .clock
 
--- a call is refused, or it is an offer to a flow of the plan with room in its queue, or a step before the last clock
+-- a flow of the plan with room in its queue
+abbrev pub Room : Plan → Book → (f : ℕ) → Type 0
+Room p b f = (f < length (p .flows)) × (waitingOf b f < mostWaiting)
+
+-- an offer that the table doesn't refuse
+room : (p : Plan) (b : Book) (f : ℕ) → offerNumber p f (waitingOf b f) ≡ 0 → Room p b f
+room p b f e = offer-passes p f (waitingOf b f) e
+
+-- a step that it doesn't refuse comes before the last clock
+early : (p : Plan) (length clock : ℕ) → stepNumber p length clock ≡ 0 → clock ≢ lastClock
+unfolding stepNumber
+early p length clock e =
+    let long = passed (ltb length (roomFor p)) 9 (cond (eqb clock lastClock) 11 0) e in
+    eqb-false _ _ (passed (eqb clock lastClock) 10 0 (long .1) .0)
+
+-- a call is refused, or it is an offer to a flow of the plan with room in its queue, a set of such offers, each counting the ones
+-- before it, or a step before the last clock
 pub feed-cases : (p : Plan) (b : Book) (Q : Fed → Type 0)
-    → ((n : ℕ) → Q (record { book = b; reply = Refused n 0; delivered = [] }))
-    → ((f : ℕ) → f < length (p .flows) → waitingOf b f < mostWaiting → Q (accepted p b (offer f)))
+    → ((n place : ℕ) → Q (record { book = b; reply = Refused n place; delivered = [] }))
+    → ((f : ℕ) → Room p b f → Q (accepted p b (offer f)))
+    → ((flows : List ℕ) → ((k : ℕ) → k < length flows → Room p (offeredFirst b flows k) (getD flows k 0)) → Q (accepted p b (offerSet flows)))
     → ((room : ℕ) → b .clock ≢ lastClock → Q (accepted p b (step room))) → (c : Call) → Q (feed p b c)
-unfolding feed refusal offerNumber stepNumber
-feed-cases p b Q refuses offers steps (offer f) =
-    elim (test (leb (length (p .flows)) f)) [
-      | inl t ↦ rw t (refuses 12)
-      | inr t ↦ elim (test (leb mostWaiting (waitingOf b f))) [
-        | inl w ↦ rw (t, w) (refuses 13)
-        | inr w ↦ rw (t, w) (offers f (leb-false _ _ t) (leb-false _ _ w))
-      ]
-    ]
-feed-cases p b Q refuses offers steps (step room) =
-    elim (test (ltb room (roomFor p))) [
-      | inl t ↦ rw t (refuses 10)
-      | inr t ↦ elim (test (eqb (b .clock) lastClock)) [
-        | inl w ↦ rw (t, w) (refuses 11)
-        | inr w ↦ rw (t, w) (steps room (eqb-false _ _ w))
-      ]
-    ]
+unfolding feed refusal setNumber
+feed-cases p b Q refuses offers sets steps c = by c (refusal p b c) refl
+  where
+    by : (c : Call) (a : Answer) → refusal p b c ≡ a → Q (judged p b c a)
+    by c (Refused n place) e = refuses n place
+    by (offer f) (Done v) e = offers f (room p b f (answer-done _ _ _ e))
+    by (offerSet flows) (Done v) e = sets flows (λ k l. room p (offeredFirst b flows k) (getD flows k 0) (first-done _ _ _ e k l))
+    by (step words) (Done v) e = steps words (early p words (b .clock) (answer-done _ _ _ e))
 
 module _ (p : Plan) where
   pub kept-start : PlanOk p → Kept p (start p)
@@ -76,10 +89,10 @@ module _ (p : Plan) where
       }
 
   module _ (b : Book) (k : Kept p b) where
-    kept-offer : (f : ℕ) → f < length (p .flows) → waitingOf b f < mostWaiting → Kept p (offered b f)
-    kept-offer f in-plan room =
+    kept-offer : (f : ℕ) → Room p b f → Kept p (offered b f)
+    kept-offer f r =
         record {
-          lawful = lawful-offer p b (k .lawful) f in-plan;
+          lawful = lawful-offer p b (k .lawful) f (r .0);
           apart = apart-offer b (k .apart) f;
           pace = λ g l T H sum window. pace-offer p g l T H sum window b (k .lawful) (k .pace g l T H sum window) f;
           clock-most = k .clock-most;
@@ -91,7 +104,7 @@ module _ (p : Plan) where
         more g =
             let split = count-append (waitsFor g) (b .lines) (offeredLine b f ∷ []) in
             elim (ℕ-discrete f g) [
-              | yes e ↦ omega (arith, split, one-most (waitsFor g (offeredLine b f)), ap (waitingOf b) e)
+              | yes e ↦ omega (arith, split, one-most (waitsFor g (offeredLine b f)), ap (waitingOf b) e, r .1)
               | no e ↦ rw (split, ne-eqb f g e) (omega (arith, k .waiting-most g))
             ]
 
@@ -115,15 +128,32 @@ module _ (p : Plan) where
             rw (count-map (waitsFor f) (move p b) (b .lines))
             (le-trans (count-mono (λ l. waitsFor f (move p b l)) (waitsFor f) (b .lines) (λ l m t. waited-for f l t)) (k .waiting-most f))
 
+  module _ (b : Book) (k : Kept p b) where
+    kept-set : (flows : List ℕ) → ((i : ℕ) → i < length flows → Room p (offeredFirst b flows i) (getD flows i 0))
+        → Kept p (offeredFirst b flows (length flows))
+    kept-set flows rooms =
+        turns-along (length flows) _ b (Kept p) (λ i l now. kept-offer _ now (getD flows i 0) (rooms i l)) (length flows) (omega arith) k
+
     pub kept-feed : (c : Call) → Kept p (feed p b c .book)
-    kept-feed c = feed-cases p b (λ (fed : Fed). Kept p (fed .book)) (λ n. k) kept-offer (λ room early. kept-step early) c
+    kept-feed c =
+        feed-cases p b (λ (fed : Fed). Kept p (fed .book)) (λ n place. k) (kept-offer b k) kept-set (λ room early. kept-step b k early) c
+
+    -- an offer lets nothing leave, nor does a set of them
+    offered-leaves : (r : Delivery → Bool) (now : Book) (f : ℕ) → count (gone r) (offered now f .lines) ≡ count (gone r) (now .lines)
+    offered-leaves r now f = omega (arith, count-append (gone r) (now .lines) (offeredLine now f ∷ []))
+
+    set-leaves : (r : Delivery → Bool) (flows : List ℕ) (n : ℕ) → count (gone r) (offeredFirst b flows n .lines) ≡ count (gone r) (b .lines)
+    set-leaves r flows n =
+        turns-along n (λ i now. offered now (getD flows i 0)) b (λ (now : Book). count (gone r) (now .lines) ≡ count (gone r) (b .lines))
+        (λ i l e. offered-leaves r (offeredFirst b flows i) (getD flows i 0) ∙ e) n (omega arith) refl
 
     -- what a call delivers is what it lets leave
     feed-delivered : (r : Delivery → Bool) (c : Call) → count (gone r) (feed p b c .book .lines) ≡ count (gone r) (b .lines) + count r (feed p b c .delivered)
     feed-delivered r c =
         feed-cases p b (λ (fed : Fed). count (gone r) (fed .book .lines) ≡ count (gone r) (b .lines) + count r (fed .delivered))
-        (λ n. omega arith)
-        (λ f l room. omega (arith, count-append (gone r) (b .lines) (offeredLine b f ∷ [])))
+        (λ n place. omega arith)
+        (λ f room. omega (arith, offered-leaves r b f))
+        (λ flows rooms. omega (arith, set-leaves r flows (length flows)))
         (λ room early. step-delivered p b (k .lawful) r)
         c
 

@@ -5,6 +5,7 @@ use Prim.Native.Nat.{ℕ, _+_}
 use lib.Dec.{eqb}
 use lib.ListN.{length, getD}
 use Rattle.laws.specs.Bounded.{tabulate}
+use Rattle.laws.specs.Turns.{turns}
 use Rattle.laws.specs.Count.{count}
 use Rattle.flow.specs.Plan.{Plan, flowAt}
 use Rattle.bucket.specs.declared.Bucket.{Bucket}
@@ -59,3 +60,7 @@ offeredLine b f =
 abbrev pub offered : Book → ℕ → Book
 offered b f =
     record { clock = b .clock; buckets = b .buckets; lines = b .lines ++ (offeredLine b f ∷ []) }
+
+-- a set adds a waiting line for each of its entries, in their order; here for the first n
+abbrev pub offeredFirst : Book → (flows : List ℕ) → (n : ℕ) → Book
+offeredFirst b flows n = turns n (λ k now. offered now (getD flows k 0)) b

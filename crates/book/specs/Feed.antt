@@ -1,24 +1,29 @@
--- The calls that the packet book is fed, its answers, and a list of calls from the start (01, The packet book; When a call says no).
+-- The calls that the packet book is fed, its answers, and a list of calls from the start (01, The packet book; When a call says no;
+-- 02, U4).
 use mathlib.Core.List.{List, [], _∷_, _++_}
-use Prim.Native.Nat.{ℕ, zero, suc}
+use Prim.Native.Nat.{ℕ}
 use lib.ListN.{length}
 use Rattle.flow.specs.Plan.{Plan}
 use Rattle.flow.specs.Limits.{offerNumber, stepNumber}
 use Rattle.plan.specs.declared.Answer.{Answer}
 use Rattle.plan.specs.declared.Answer.the-variants.{Done, Refused}
-use Rattle.book.specs.Book.{Book, start, offered, waitingOf}
+use Rattle.plan.specs.Refusals.{answerBy}
+use Rattle.plan.specs.Set.{setAnswer}
+use Rattle.book.specs.Book.{Book, start, offered, offeredFirst, waitingOf}
 use Rattle.router.specs.Delivery.{Delivery}
 use Rattle.book.specs.Cycle.{stepped, deliveries}
 
--- a call's kind and arguments: a flow, or a length of delivery memory
+-- a call's kind and arguments: a flow, a list of flows, or a length of delivery memory
 pub data Call : Type 0 where
   offer : (flow : ℕ) → Call
+  offerSet : (flows : List ℕ) → Call
   step : (room : ℕ) → Call
 
--- the number of the table, judged by the plan and the book's clock and lines; 0 for a call that isn't refused
-unfoldable pub refusal : Plan → Book → Call → ℕ
-refusal p b (offer f) = offerNumber p f (waitingOf b f)
-refusal p b (step room) = stepNumber p room (b .clock)
+-- what the table says, judged by the plan and the book's clock and lines: the number with its place, or 0 for a call that isn't refused
+unfoldable pub refusal : Plan → Book → Call → Answer
+refusal p b (offer f) = answerBy (offerNumber p f (waitingOf b f)) 0
+refusal p b (offerSet flows) = setAnswer p (λ n f. waitingOf (offeredFirst b flows n) f) flows
+refusal p b (step room) = answerBy (stepNumber p room (b .clock)) 0
 
 -- the book after a call, its answer and what it delivers
 pub record Fed : Type 0 where
@@ -29,12 +34,13 @@ pub record Fed : Type 0 where
 -- a call that isn't refused
 abbrev pub accepted : Plan → Book → Call → Fed
 accepted p b (offer f) = record { book = offered b f; reply = Done 0; delivered = [] }
+accepted p b (offerSet flows) = record { book = offeredFirst b flows (length flows); reply = Done 0; delivered = [] }
 accepted p b (step room) = record { book = stepped p b; reply = Done (length (deliveries p b)); delivered = deliveries p b }
 
--- a call that the table refuses gets that number and place 0 and changes nothing
-abbrev pub judged : Plan → Book → Call → (number : ℕ) → Fed
-judged p b c zero = accepted p b c
-judged p b c (suc n) = record { book = b; reply = Refused (suc n) 0; delivered = [] }
+-- a call that the table refuses gets that number and place and changes nothing
+abbrev pub judged : Plan → Book → Call → Answer → Fed
+judged p b c (Done v) = accepted p b c
+judged p b c (Refused number place) = record { book = b; reply = Refused number place; delivered = [] }
 
 unfoldable pub feed : Plan → Book → Call → Fed
 feed p b c = judged p b c (refusal p b c)

@@ -13,6 +13,7 @@ use Rattle.laws.proofs.Turns.{turns-along, turns-more}
 use Rattle.flow.specs.Plan.{Plan, mostFlows}
 use Rattle.flow.specs.Limits.{mostWaiting}
 use Rattle.flow.proofs.Limits.{offer-passes}
+use Rattle.plan.specs.Set.{setNumber}
 use Rattle.state.specs.declared.Tally.{Tally}
 use Rattle.state.specs.State.{State, tallyAt}
 use Rattle.state.proofs.Forms.{tally-facts}
@@ -39,13 +40,13 @@ module _ (s : State) (flows : List ℕ) where
 
   -- an entry that isn't refused is a flow of the plan
   pub entry-known : (n : ℕ) → entryNumber s flows n ≡ 0 → getD flows n 0 < length (s .plan .flows)
-  unfolding entryNumber
-  entry-known n e = rw (first-plan n) at (offer-passes _ _ _ e .0)
+  unfolding setNumber
+  entry-known n e = offer-passes _ _ _ e .0
 
   module _ (sound : Sound s) where
     pub first-sound : (n : ℕ) → Passed n → Sound (withFirst s flows n)
-    unfolding entryNumber
-    first-sound n passed = turns-along n _ s Sound (λ k l now. offer-sound _ _ now (passed k l)) n (omega arith) sound
+    unfolding setNumber
+    first-sound n passed = turns-along n _ s Sound (λ k l now. offer-sound _ _ now (rw (first-plan k) (passed k l))) n (omega arith) sound
 
     -- all waiting packets
     abbrev waitingIn : State → ℕ

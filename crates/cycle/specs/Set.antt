@@ -3,10 +3,9 @@ use mathlib.Core.List.{List}
 use Prim.Native.Nat.{ℕ}
 use lib.ListN.{length, getD}
 use Rattle.laws.specs.Turns.{turns}
-use Rattle.flow.specs.Limits.{offerNumber}
 use Rattle.plan.specs.declared.Answer.{Answer}
 use Rattle.plan.specs.declared.Answer.the-variants.{Done}
-use Rattle.plan.specs.Refusals.{firstRefused}
+use Rattle.plan.specs.Set.{setNumber, setAnswer}
 use Rattle.state.specs.State.{State, tallyAt}
 use Rattle.state.specs.Words.{stateWords}
 use Rattle.state.specs.Read.{stateOf}
@@ -18,18 +17,18 @@ use Rattle.cycle.specs.Offer.{offerState}
 abbrev pub withFirst : State → (flows : List ℕ) → (n : ℕ) → State
 withFirst s flows n = turns n (λ k now. offerState now (getD flows k 0)) s
 
--- what the entry at this position would be refused for, counting the entries before it as already added; else 0
-unfoldable pub entryNumber : State → (flows : List ℕ) → (position : ℕ) → ℕ
-entryNumber s flows position =
-    let now = withFirst s flows position in
-    let flow = getD flows position 0 in
-    offerNumber (now .plan) flow ((tallyAt now flow) .waiting)
+-- how many packets of a flow wait once so many entries are added
+abbrev pub waitingAfter : State → (flows : List ℕ) → (added flow : ℕ) → ℕ
+waitingAfter s flows added flow = (tallyAt (withFirst s flows added) flow) .waiting
 
--- a set: state; the first entry that would be refused gives its number, 12 or 13, and its position in the list as the place;
--- otherwise every packet in it is accepted
+-- what the entry at this position would be refused for, or 0
+abbrev pub entryNumber : State → (flows : List ℕ) → (position : ℕ) → ℕ
+entryNumber s flows = setNumber (s .plan) (waitingAfter s flows) flows
+
+-- a set: state; the first entry that would be refused; otherwise every packet in it is accepted
 unfoldable pub offerSetOn : (words flows : List ℕ) → Outcome Answer (List ℕ)
 offerSetOn words flows =
     let s = stateOf words in
     unless (stateNumber words) words
-    (unlessRefused (firstRefused (entryNumber s flows) (length flows)) words
+    (unlessRefused (setAnswer (s .plan) (waitingAfter s flows) flows) words
     (outcome (Done 0) (over (stateWords (withFirst s flows (length flows))) words)))

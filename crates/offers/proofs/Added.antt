@@ -8,6 +8,7 @@ use native.Mathlib.Omega.{arith}
 use lib.ListN.{length, getD}
 use Rattle.flow.specs.Plan.{Plan, mostFlows}
 use Rattle.flow.specs.Limits.{mostWaiting, offerNumber}
+use Rattle.plan.specs.Set.{setNumber}
 use Rattle.state.specs.State.{State, tallyAt}
 use Rattle.state.specs.Words.{stateWords}
 use Rattle.state.specs.Read.{stateOf}
@@ -56,8 +57,8 @@ module _ (before flows : List ℕ) (n : ℕ) (memory : List ℕ) (a : Added befo
   -- the next entry's number
   pub added-number : (f : ℕ) → f ≡ getD flows n 0
       → offerNumber ((stateOf memory) .plan) f ((tallyAt (stateOf memory) f) .waiting) ≡ entryNumber s flows n
-  unfolding entryNumber
-  added-number f e = rw (added-state, e)
+  unfolding setNumber
+  added-number f e = rw (added-state, e, first-plan s flows n)
 
   -- another state of the plan, written over the memory
   rewritten : (t : State) → t .plan ≡ s .plan → over (stateWords t) memory ≡ over (stateWords t) before

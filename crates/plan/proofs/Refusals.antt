@@ -87,3 +87,15 @@ module _ (number : ℕ → ℕ) where
       by (Refused k place) q d found =
           let f = found (q ∙ d) in
           record { below = omega (arith, f .below); here = f .here; some = f .some; earlier = f .earlier }
+
+-- numbers that agree as long as none is refused
+pub first-same : (number other : ℕ → ℕ) (n : ℕ) → ((i : ℕ) → i < n → ((j : ℕ) → j < i → other j ≡ 0) → number i ≡ other i)
+    → firstRefused number n ≡ firstRefused other n
+unfolding firstRefused
+first-same number other zero same = refl
+first-same number other (suc n) same = by (firstRefused other n) refl (first-same number other n (λ i l. same i (omega arith)))
+  where
+    by : (a : Answer) → firstRefused other n ≡ a → firstRefused number n ≡ firstRefused other n
+        → refusedOr (firstRefused number n) (answerBy (number n) n) ≡ refusedOr (firstRefused other n) (answerBy (other n) n)
+    by (Done v) e earlier = rw (earlier, same n (omega arith) (first-done other n v e))
+    by (Refused m at) e earlier = rw (earlier, e)

@@ -7,43 +7,39 @@ use mathlib.Core.Path.{_≡_, refl, sym, ap, _∙_}
 use Prim.Native.Nat.{ℕ, zero, suc, _+_, _-_, _≤_, _<_}
 use native.Mathlib.Omega.{arith}
 use lib.Dec.{ltb}
-use lib.ListN.{length, drop}
+use lib.ListN.{length, getD, drop}
+use Rattle.laws.specs.Bounded.{tabulate}
 use Rattle.laws.proofs.Cases.{test}
-use Rattle.laws.proofs.Stands.{stands-first}
 use Rattle.flow.specs.declared.Flow.{Flow}
 use Rattle.flow.specs.Plan.{Plan, flowAt}
+use Rattle.flow.proofs.Limits.{offer-passes}
 use Rattle.plan.specs.declared.Answer.{Answer}
-use Rattle.plan.specs.declared.Answer.the-variants.{Done}
+use Rattle.plan.specs.declared.Answer.the-variants.{Done, Refused}
+use Rattle.plan.specs.Set.{setNumber}
 use Rattle.file.specs.Layout.{planOf}
-use Rattle.plan.proofs.Refusals.{refused-done}
+use Rattle.plan.proofs.Refusals.{refused-done, answer-done, first-done}
 use Rattle.plan.proofs.Ranges.{Bytes, plan-ok}
 use Rattle.flight.specs.Flight.{flight, flightOf, flightBound, mostDeflections}
 use Rattle.flight.proofs.Flight.{flight-of, flight-bounded}
 use Rattle.bounds.specs.Bounds.{windowAnswer}
 use Rattle.bounds.proofs.Told.{window-told, flight-told}
 use Rattle.book.specs.Line.{Line, Stage, waiting, placed, left, isWaiting, isLeft, entryOf, exitOf}
-use Rattle.book.specs.Book.{Book, start, totalOf, offeredLine, offered}
-use Rattle.book.specs.Feed.{Call, refusal, judged, feed, runFrom, run}
+use Rattle.book.specs.Book.{Book, start, waitingOf}
+use Rattle.book.specs.Feed.{Call, refusal, Fed, accepted, judged, feed, runFrom, run}
 use Rattle.book.specs.Feed as Feed
 use Rattle.book.specs.Promises.{deadline, EntersBy, Flies}
-use Rattle.book.proofs.Queue.{total-split}
 use Rattle.book.proofs.Kept.{Kept, kept-run}
-use Rattle.state.specs.declared.Tally.{Tally}
-use Rattle.state.specs.Words.{stateWords}
 use Rattle.state.specs.Read.{planIn}
 use Rattle.state.specs.Outcome.{Outcome}
 use Rattle.state.specs.Layout.{planSize}
 use Rattle.state.specs.Reset.{resetOn}
-use Rattle.state.proofs.Read.{clock-read, tally-at-read}
 use Rattle.reset.proofs.Leaves.{reset-done}
 use Rattle.writing.proofs.Back.{file-back}
-use Rattle.run.specs.List.{Whole, offer, reset, Item, onMemory, memoryAfter, role, roleIn, IsList, fedAs, fed, due, Follows}
-use Rattle.run.specs.View.{bookState}
-use Rattle.run.specs.Answers.{bookAfter, HasRun, EnteredBy, acceptedLine, EveryAnswer}
-use Rattle.run.proofs.View.{tally-at}
-use Rattle.run.proofs.Memory.{image, plan-is}
-use Rattle.run.proofs.Calls.{below}
+use Rattle.run.specs.List.{Whole, Asked, offer, offerSet, reset, Item, onMemory, memoryAfter, feeds, role, roleIn, IsList, fedAs, fed, due, Follows}
+use Rattle.run.specs.Answers.{bookAfter, HasRun, EnteredBy, acceptedLine, entryLine, EveryAnswer}
+use Rattle.run.proofs.Memory.{plan-is}
 use Rattle.run.proofs.List.{does, every-list}
+use Rattle.run.proofs.Lines.{line-read, lines-read}
 
 -- past its deadline a line has entered
 entered-by : {deadline cycle clock : ℕ} (s : Stage) → deadline ≤ cycle → cycle < clock → EntersBy deadline clock s
@@ -76,36 +72,21 @@ run-last : (p : Plan) (b : Book) (cs : List Call) (c : Call) → (runFrom p b (c
 run-last p b [] c = refl
 run-last p b (d ∷ cs) c = run-last p ((feed p b d) .book) cs c
 
--- an offer is no reset
+-- neither an offer nor a set is a reset
 offer-reset : (f : ℕ) (file : List ℕ) → offer f ≡ reset file → ⊥
 offer-reset f file e = let z : _≡_ {A = ℕ} 0 1 = cc in omega arith
 
-module _ (p : Plan) (b : Book) (f : ℕ) where
-  -- an offer that is answered by 0 is not refused, and adds its line
-  offer-passes : (feed p b (Feed.offer f)) .reply ≡ Done 0 → refusal p b (Feed.offer f) ≡ 0
-  unfolding feed
-  offer-passes e = go (refusal p b (Feed.offer f)) e
-    where
-      go : (n : ℕ) → (judged p b (Feed.offer f) n) .reply ≡ Done 0 → n ≡ 0
-      go zero q = refl
-      go (suc n) q = absurd (refused-done _ _ _ q)
+set-reset : (flows file : List ℕ) → offerSet flows ≡ reset file → ⊥
+set-reset flows file e = let z : _≡_ {A = ℕ} 0 1 = cc in omega arith
 
-  offer-adds : (feed p b (Feed.offer f)) .reply ≡ Done 0 → (feed p b (Feed.offer f)) .book ≡ offered b f
-  unfolding feed
-  offer-adds e = rw (offer-passes e)
-
-  -- the words of the state memory give the line
-  line-read : (tail : List ℕ) → f < length (p .flows) → acceptedLine (image p b tail) f ≡ offeredLine b f
-  unfolding bookState
-  line-read tail l =
-      let w = image p b tail in
-      let s = stands-first 0 (stateWords (bookState p b)) tail in
-      let t = tally-at-read (bookState p b) w s f l ∙ tally-at p b f l in
-      let c = clock-read (bookState p b) w s in
-      let entered = ap (λ (t : Tally). t .entered) t in
-      let q = ap (λ (t : Tally). t .waiting) t in
-      let serial : (acceptedLine w f) .serial ≡ totalOf b f + 1 = omega (arith, entered, q, total-split b f) in
-      λ j. record { flow = f; serial = serial j; offer = c j; q = q j; D = 0; stage = waiting }
+-- a call that is answered by a value is not refused, and does what it does then
+feed-passes : (p : Plan) (b : Book) (c : Call) (v : ℕ) → (feed p b c) .reply ≡ Done v → (w : ℕ) × (refusal p b c ≡ Done w) × (feed p b c ≡ accepted p b c)
+unfolding feed
+feed-passes p b c v e = by (refusal p b c) refl e
+  where
+    by : (a : Answer) → refusal p b c ≡ a → (judged p b c a) .reply ≡ Done v → (w : ℕ) × (refusal p b c ≡ Done w) × (judged p b c (refusal p b c) ≡ accepted p b c)
+    by (Done w) q d = (w, q, ap (judged p b c) q)
+    by (Refused n place) q d = absurd (refused-done n place v d)
 
 module _ (file words : List ℕ) (bytes : Bytes file) (done : (resetOn file words) .answer ≡ Done 0) (is : List Item)
     (l : IsList ((resetOn file words) .memory) is) where
@@ -143,34 +124,55 @@ module _ (file words : List ℕ) (bytes : Bytes file) (done : (resetOn file word
     gone : isWaiting (x .stage) ≡ false → HasRun b (entryOf (x .stage) + flightBound (p .sx) (p .sy) φ - 2) → isLeft (x .stage) ≡ true
     gone = left-by p φ (x .D) (b .clock) (follows .promised .deflections-most x m) (x .stage) (follows .promised .flies x m)
 
-  module _ (f n : ℕ) where
-    abbrev i : Item
-    i = record { asked = offer f; lentWords = n }
-
-    -- an accepted offer was fed to the book
-    was-fed : (onMemory memory i) .answer ≡ Done 0 → (roleIn p i ≡ role (i .asked)) × ((feed p b (Feed.offer f)) .reply ≡ Done 0)
-    was-fed e =
-        let does-it = does p words b kept i (λ g e. absurd (offer-reset f g e)) in
+  -- a call fed to the book, which is answered by 0
+  module _ (c : Call) (i : Item) (feeds-it : role (i .asked) ≡ feeds c []) (no-reset : (g : List ℕ) → i .asked ≡ reset g → ⊥)
+      (e : (onMemory memory i) .answer ≡ Done 0) where
+    was-fed : (roleIn p i ≡ role (i .asked)) × ((feed p b c) .reply ≡ Done 0)
+    was-fed =
+        let does-it = does p words b kept i (λ g r. absurd (no-reset g r)) in
         let due-is : (due p b words i (roleIn p i)) .answer ≡ Done 0 =
         sym (ap (λ (o : Outcome Answer Whole). o .answer) does-it) ∙ ap (λ m. (onMemory m i) .answer) (sym (follows .state)) ∙ e in
-        elim (test (ltb n (planSize p))) [
-          | inl few ↦ absurd (refused-done _ _ _ (rw few at due-is))
-          | inr all ↦ (rw all, rw all at due-is)
+        elim (test (ltb (i .lentWords) (planSize p))) [
+          | inl few ↦ absurd (refused-done _ _ _ (rw (few, feeds-it) at due-is))
+          | inr all ↦ (rw all, rw (all, feeds-it) at due-is)
         ]
 
-    -- so the book has its line, and no other one more
-    adds : (onMemory memory i) .answer ≡ Done 0 → bookAfter file (is ++ (i ∷ [])) ≡ offered b f
-    adds e =
-        let h = was-fed e in
-        ap (λ cs. (run p cs) .book) (fed-last p is i ∙ ap (λ r. fed p is ++ fedAs r) (h .0))
-        ∙ run-last p (start p) (fed p is) (Feed.offer f)
-        ∙ offer-adds p b f (h .1)
+    -- was not refused, and is the one call more
+    free : (w : ℕ) × (refusal p b c ≡ Done w)
+    free = let h = feed-passes p b c 0 (was-fed .1) in (h .0, h .1)
 
-    numbers : (onMemory memory i) .answer ≡ Done 0 → (bookAfter file (is ++ (i ∷ []))) .lines ≡ b .lines ++ (acceptedLine memory f ∷ [])
-    numbers e =
-        let known = below p b kept tail f (offer-passes p b f (was-fed e .1)) in
-        let line = ap (λ m. acceptedLine m f) (follows .state) ∙ line-read p b f tail known in
-        ap (λ (c : Book). c .lines) (adds e) ∙ ap (λ l. b .lines ++ (l ∷ [])) (sym line)
+    adds : bookAfter file (is ++ (i ∷ [])) ≡ (accepted p b c) .book
+    adds =
+        ap (λ cs. (run p cs) .book) (fed-last p is i ∙ ap (λ r. fed p is ++ fedAs r) (was-fed .0 ∙ feeds-it))
+        ∙ run-last p (start p) (fed p is) c
+        ∙ ap (λ (now : Fed). now .book) (feed-passes p b c 0 (was-fed .1) .2)
+
+  module _ (n : ℕ) where
+    abbrev item : Asked → Item
+    item asked = record { asked = asked; lentWords = n }
+
+    -- so the book has the line of an offer, and no other one more
+    numbers : (f : ℕ) → (onMemory memory (item (offer f))) .answer ≡ Done 0
+        → (bookAfter file (is ++ (item (offer f) ∷ []))) .lines ≡ b .lines ++ (acceptedLine memory f ∷ [])
+    unfolding refusal
+    numbers f e =
+        let none : (g : List ℕ) → offer f ≡ reset g → ⊥ = λ g r. offer-reset f g r in
+        let passed = free (Feed.offer f) (item (offer f)) refl none e in
+        let known = offer-passes p f (waitingOf b f) (answer-done _ _ _ (passed .1)) .0 in
+        let line = ap (λ m. acceptedLine m f) (follows .state) ∙ line-read p b tail f known in
+        ap (λ (c : Book). c .lines) (adds (Feed.offer f) (item (offer f)) refl none e) ∙ ap (λ l. b .lines ++ (l ∷ [])) (sym line)
+
+    -- and those of a set
+    set-numbers : (flows : List ℕ) → (onMemory memory (item (offerSet flows))) .answer ≡ Done 0
+        → (bookAfter file (is ++ (item (offerSet flows) ∷ []))) .lines ≡ b .lines ++ tabulate (length flows) (entryLine memory flows)
+    unfolding refusal setNumber
+    set-numbers flows e =
+        let none : (g : List ℕ) → offerSet flows ≡ reset g → ⊥ = λ g r. set-reset flows g r in
+        let passed = free (Feed.offerSet flows) (item (offerSet flows)) refl none e in
+        let known : (k : ℕ) → k < length flows → getD flows k 0 < length (p .flows) = λ k l. offer-passes p _ _ (first-done _ _ _ (passed .1) k l) .0 in
+        ap (λ (c : Book). c .lines) (adds (Feed.offerSet flows) (item (offerSet flows)) refl none e)
+        ∙ lines-read b flows p tail known
+        ∙ ap (λ m. b .lines ++ tabulate (length flows) (entryLine m flows)) (sym (follows .state))
 
 -- for every plan file that reset accepts, every state memory of at least its size and every list of calls
 pub every-answer : EveryAnswer
@@ -182,6 +184,7 @@ every-answer file words bytes done is l =
       lone-enters = λ x m T e lone past. entered file words bytes done is l x m T _ e (rw lone (omega arith)) past;
       flies-within = λ x m B e gone. omega (arith, flight-told file (x .flow) B e, flown file words bytes done is l x m gone);
       leaves-by = λ x m B e in-flight past. gone file words bytes done is l x m in-flight (omega (arith, flight-told file (x .flow) B e));
-      gets-serial = numbers file words bytes done is l;
+      gets-serial = λ f n. numbers file words bytes done is l n f;
+      get-serials = λ flows n. set-numbers file words bytes done is l n flows;
       writes-back = λ target room. file-back file _ target (a .value) bytes (a .file-done) (h .formed) (plan-kept file words bytes done is l) room;
     }

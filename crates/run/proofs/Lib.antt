@@ -4,11 +4,13 @@ pub mod Outputs
 pub mod Step
 pub mod Delivery
 pub mod Offer
+pub mod Set
 pub mod Forms
 pub mod Memory
 pub mod Calls
 pub mod Reset
 pub mod List
+pub mod Lines
 pub mod Answers
 pub mod Carried
 pub mod Keeps

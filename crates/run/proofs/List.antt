@@ -34,16 +34,17 @@ use Rattle.state.specs.Writing.{writeOn}
 use Rattle.state.proofs.Words.{length-words}
 use Rattle.reset.proofs.Leaves.{reset-done, leaves}
 use Rattle.cycle.specs.Offer.{offerOn}
+use Rattle.cycle.specs.Set.{offerSetOn}
 use Rattle.cycle.specs.Step.{stepOn}
 use Rattle.feed.specs.Feed.{feedOn}
-use Rattle.run.specs.List.{Beside, justWords, Whole, whole, Asked, offer, step, write, recent, reset, onWords, Item, onMemory, memoryAfter}
+use Rattle.run.specs.List.{Beside, justWords, Whole, whole, Asked, offer, offerSet, step, write, recent, reset, onWords, Item, onMemory, memoryAfter}
 use Rattle.run.specs.List.{Role, feeds, between, resets, role, tooLittle, roleIn}
 use Rattle.run.specs.List.{IsList, fedAs, fed, beside, outcomes, bookMemory, due, expected}
 use Rattle.run.specs.List.{Follows, EveryList}
 use Rattle.run.specs.View.{bookState}
 use Rattle.run.proofs.Offer.{start-follows}
 use Rattle.run.proofs.Memory.{image, image-part, image-rest, number, short}
-use Rattle.run.proofs.Calls.{offer-on, step-on, write-on, recent-on}
+use Rattle.run.proofs.Calls.{offer-on, set-on, step-on, write-on, recent-on}
 use Rattle.run.proofs.Reset.{reset-refused}
 
 -- the outcomes of the fed calls, in order
@@ -70,7 +71,7 @@ fed-words : (p : Plan) (b : Book) (c : Call) (other : List ℕ) → let now : Fe
 fed-words p b c other =
     feed-cases p b
     (λ (now : Fed). take (wordCount (now .reply)) (over (wordsOf (now .delivered)) other) ≡ wordsOf (now .delivered))
-    (λ n. refl) (λ f below room. refl)
+    (λ n place. refl) (λ f room. refl) (λ flows rooms. refl)
     (λ room early. take-at (wordsOf (deliveries p b)) _ (5 * length (deliveries p b)) (words-length (deliveries p b)))
     c
 
@@ -123,6 +124,8 @@ module _ (p : Plan) (words : List ℕ) where
 
       does-enough : (c : Asked) → planSize p ≤ n → May c → Does (item c) (role c)
       does-enough (offer f) h may = enough (feed p b (Feed.offer f) .book) (item (offer f)) _ _ h (λ t. offer-on p b k t f)
+      does-enough (offerSet flows) h may =
+          enough (feed p b (Feed.offerSet flows) .book) (item (offerSet flows)) _ _ h (λ t. set-on p b k t flows)
       does-enough (step delivery) h may =
           enough (feed p b (Feed.step (length delivery)) .book) (item (step delivery)) _ _ h (λ t. step-on p b k t delivery)
       does-enough (write notes target) h may = enough b (item (write notes target)) _ _ h (λ t. write-on p b k t notes target)
@@ -131,8 +134,9 @@ module _ (p : Plan) (words : List ℕ) where
       does-enough (reset file) h may = does-reset file may
 
       does-little : (c : Asked) → n < planSize p → May c → Does (item c) (tooLittle (role c))
-      unfolding offerOn stepOn writeOn feedOn unless
+      unfolding offerOn offerSetOn stepOn writeOn feedOn unless
       does-little (offer f) few may = unchanged m (item (offer f)) _ _ (rw (short p b tail k n few))
+      does-little (offerSet flows) few may = unchanged m (item (offerSet flows)) _ _ (rw (short p b tail k n few))
       does-little (step delivery) few may = unchanged m (item (step delivery)) _ _ (rw (short p b tail k n few))
       does-little (write notes target) few may = unchanged m (item (write notes target)) _ _ (rw (short p b tail k n few))
       does-little (recent deliveries last records) few may = unchanged m (item (recent deliveries last records)) _ _ (rw (short p b tail k n few))

@@ -1,22 +1,25 @@
 -- The state of the book at its start is the reset state, and an offer on the state of a book is the book's offer. Rests on View.
 use mathlib.Core.Bool.{and-true}
 use mathlib.Core.List.{[], _∷_, append-nil}
+use mathlib.Core.Logic.{inl, inr}
 use mathlib.Core.Path.{_≡_, refl, sym, ap, _∙_}
 use Prim.Native.Nat.{ℕ, _+_, _<_}
 use native.Mathlib.Decide.{ℕ-discrete}
 use native.Mathlib.Nat.{add-zero}
 use native.Mathlib.Omega.{arith}
-use borrow.Author.Tests.{eq-eqb, ne-eqb}
-use lib.Dec.{eqb}
+use borrow.Author.Tests.{leb-false, eq-eqb, ne-eqb}
+use lib.Dec.{leb, eqb}
 use lib.ListN.{length, getD, set, length-set}
 use lib.Seq.{getD-set-same, getD-set-other}
 use Rattle.laws.specs.Bounded.{tabulate}
 use Rattle.laws.specs.Count.{one}
+use Rattle.laws.proofs.Cases.{test}
 use Rattle.laws.proofs.Bounded.{length-tabulate, getD-tabulate, is-tabulate}
 use Rattle.laws.proofs.Count.{count-append}
 use Rattle.laws.proofs.Keep.{keep-append}
 use Rattle.laws.proofs.Grid.{tabulate-same, grid-same}
 use Rattle.flow.specs.Plan.{Plan, flowAt}
+use Rattle.flow.specs.Limits.{offerNumber}
 use Rattle.bucket.specs.Regulator.{fullBucket}
 use Rattle.place.specs.Place.{Place, W, N}
 use Rattle.book.specs.Line.{standsIn}
@@ -24,7 +27,7 @@ use Rattle.book.specs.Cycle.{linesIn}
 use Rattle.book.specs.Book.{Book, bucketAt, start, waitsFor, waitingOf, enteredOf, offeredLine, offered}
 use Rattle.book.proofs.Queue.{entered-offer}
 use Rattle.state.specs.declared.Tally.{Tally}
-use Rattle.state.specs.State.{freshTally, resetState}
+use Rattle.state.specs.State.{tallyAt, freshTally, resetState}
 use Rattle.cycle.specs.Offer.{offerState}
 use Rattle.run.specs.View.{holding, registerOf, cellOf, tallyOf, bookState}
 use Rattle.run.proofs.View.{tally-at}
@@ -40,15 +43,22 @@ start-follows p =
         let e = getD-tabulate (length (p .flows)) (λ f. fullBucket ((flowAt p f) .burst)) f (fullBucket 0) l in
         λ i. record { bucket = e i; entered = 0; waiting = 0 }
 
+-- both sides give an offer the same number
+pub offer-number : (p : Plan) (b : Book) (f : ℕ) → let s = bookState p b in
+    offerNumber (s .plan) f ((tallyAt s f) .waiting) ≡ offerNumber p f (waitingOf b f)
+unfolding bookState offerNumber
+offer-number p b f =
+    elim (test (leb (length (p .flows)) f)) [ inl out ↦ rw out | inr in-plan ↦ rw (tally-at p b f (leb-false _ _ in-plan)) ]
+
+-- one more waiting
+pub waiting-offer : (b : Book) (f g : ℕ) → waitingOf (offered b f) g ≡ waitingOf b g + one (eqb f g)
+waiting-offer b f g = count-append (waitsFor g) (b .lines) (offeredLine b f ∷ []) ∙ rw (add-zero, and-true (eqb f g))
+
 module _ (p : Plan) (b : Book) (f : ℕ) (below : f < length (p .flows)) where
   -- a waiting line has no place
   offer-register : (at : Place) → registerOf b at ≡ registerOf (offered b f) at
   unfolding registerOf
   offer-register at = ap holding (sym (keep-append (λ l. standsIn at (l .stage)) (b .lines) (offeredLine b f ∷ []) ∙ append-nil (linesIn b at)))
-
-  -- one more waiting
-  waiting-offer : (g : ℕ) → waitingOf (offered b f) g ≡ waitingOf b g + one (eqb f g)
-  waiting-offer g = count-append (waitsFor g) (b .lines) (offeredLine b f ∷ []) ∙ rw (add-zero, and-true (eqb f g))
 
   abbrev after : Tally
   after = record { bucket = (tallyOf b f) .bucket; entered = enteredOf b f; waiting = waitingOf b f + 1 }
@@ -59,11 +69,11 @@ module _ (p : Plan) (b : Book) (f : ℕ) (below : f < length (p .flows)) where
       let long = length-tabulate (length (p .flows)) (tallyOf b) in
       elim (ℕ-discrete g f) [
         | yes e ↦
-            let waits : waitingOf (offered b f) f ≡ waitingOf b f + 1 = waiting-offer f ∙ rw (eq-eqb f f refl) in
+            let waits : waitingOf (offered b f) f ≡ waitingOf b f + 1 = waiting-offer b f f ∙ rw (eq-eqb f f refl) in
             rw (e, getD-set-same old f after (freshTally 0) (omega arith))
             (sym (λ i. record { bucket = bucketAt b f; entered = entered-offer b f f i; waiting = waits i }))
         | no e ↦
-            let waits : waitingOf (offered b f) g ≡ waitingOf b g = waiting-offer g ∙ rw (ne-eqb f g (λ u. e (sym u)), add-zero) in
+            let waits : waitingOf (offered b f) g ≡ waitingOf b g = waiting-offer b f g ∙ rw (ne-eqb f g (λ u. e (sym u)), add-zero) in
             rw (getD-set-other old f g after (freshTally 0) e, getD-tabulate (length (p .flows)) (tallyOf b) g (freshTally 0) l)
             (sym (λ i. record { bucket = bucketAt b g; entered = entered-offer b f g i; waiting = waits i }))
       ]

@@ -1,10 +1,13 @@
 -- What the calls' own answers tell of a whole list from an accepted file's reset: a planner reads windows and flight bounds off the
--- calls, and the packet book bears them out (01, Windows; State memory; The packet book).
+-- calls, and the packet book bears them out (01, Windows; State memory; The packet book; 02, U4).
 use mathlib.Core.Bool.{true, false}
 use mathlib.Core.List.{List, [], _∷_, _++_, List·Memᴰ as Mem}
 use mathlib.Core.Path.{_≡_}
 use Prim.Native.Nat.{ℕ, _+_, _-_, _≤_, _<_}
-use lib.ListN.{length}
+use lib.Dec.{eqb}
+use lib.ListN.{length, getD, take}
+use Rattle.laws.specs.Bounded.{tabulate}
+use Rattle.laws.specs.Count.{count}
 use Rattle.flow.specs.Plan.{flowAt}
 use Rattle.plan.specs.declared.Answer.the-variants.{Done}
 use Rattle.file.specs.Layout.{planOf}
@@ -20,7 +23,7 @@ use Rattle.state.specs.Layout.{flowPlace}
 use Rattle.state.specs.Read.{clockIn, tallyIn}
 use Rattle.state.specs.Outcome.{outcome, over}
 use Rattle.state.specs.Writing.{writeOn}
-use Rattle.run.specs.List.{offer, Item, onMemory, memoryAfter, fed, OfEveryList}
+use Rattle.run.specs.List.{offer, offerSet, Item, onMemory, memoryAfter, fed, OfEveryList}
 
 -- the packet book after a list from the file's reset
 abbrev pub bookAfter : (file : List ℕ) → List Item → Book
@@ -34,12 +37,21 @@ HasRun b cycle = cycle < b .clock
 abbrev pub EnteredBy : (cycle : ℕ) → Line → Type 0
 EnteredBy cycle l = (isWaiting (l .stage) ≡ false) × (entryOf (l .stage) ≤ cycle)
 
--- the line of a packet of flow f that is accepted on this state memory, with q waiting: its serial is entered + q + 1
-abbrev pub acceptedLine : (memory : List ℕ) → (f : ℕ) → Line
-acceptedLine memory f =
+-- the line of a packet of flow f that is accepted on this state memory, behind q others: its serial is entered + q + 1
+abbrev pub lineBehind : (memory : List ℕ) → (f q : ℕ) → Line
+lineBehind memory f q =
     let entered = (tallyIn memory (flowPlace f)) .entered in
-    let q = (tallyIn memory (flowPlace f)) .waiting in
     record { flow = f; serial = entered + q + 1; offer = clockIn memory; q = q; D = 0; stage = waiting }
+
+-- of a single offer, q counts the waiting packets
+abbrev pub acceptedLine : (memory : List ℕ) → (f : ℕ) → Line
+acceptedLine memory f = lineBehind memory f ((tallyIn memory (flowPlace f)) .waiting)
+
+-- of the entry at this position of a set, q counts the earlier entries of the same flow too
+abbrev pub entryLine : (memory flows : List ℕ) → (position : ℕ) → Line
+entryLine memory flows position =
+    let f = getD flows position 0 in
+    lineBehind memory f ((tallyIn memory (flowPlace f)) .waiting + count (λ g. eqb g f) (take position flows))
 
 -- the book and the state memory after a list
 pub record Told (file : List ℕ) (is : List Item) (b : Book) (memory : List ℕ) : Type 0 where
@@ -58,6 +70,9 @@ pub record Told (file : List ℕ) (is : List Item) (b : Book) (memory : List ℕ
   -- a packet accepted with q waiting gets serial entered + q + 1
   pub gets-serial : (f n : ℕ) → let i : Item = record { asked = offer f; lentWords = n } in
       (onMemory memory i) .answer ≡ Done 0 → (bookAfter file (is ++ (i ∷ []))) .lines ≡ b .lines ++ (acceptedLine memory f ∷ [])
+  -- and so does each of an accepted set, in its order; q counts the earlier entries of the same flow too
+  pub get-serials : (flows : List ℕ) (n : ℕ) → let i : Item = record { asked = offerSet flows; lentWords = n } in
+      (onMemory memory i) .answer ≡ Done 0 → (bookAfter file (is ++ (i ∷ []))) .lines ≡ b .lines ++ tabulate (length flows) (entryLine memory flows)
   -- writing the state with the file's notes gives the file back; target bytes past it are unchanged
   pub writes-back : (target : List ℕ) → length file ≤ length target
       → writeOn memory (notesOf file) target ≡ outcome (Done (length file)) (over file target)
