@@ -1,4 +1,5 @@
-//! The packet book, by 01's "The packet book" and "One cycle": one line per accepted packet.
+//! The packet book, by 01's "The packet book" and "One cycle": one line per accepted packet. Its offers
+//! are in `offers`.
 //! The lines are the truth; what else the book keeps (which lines wait, which have a place, how
 //! many have entered) is an index of them, for speed, checked against the lines in `promises`.
 
@@ -6,7 +7,6 @@ use crate::plan::{Plan, Port, Refusal, refuse};
 use std::collections::VecDeque;
 
 pub const LAST_CLOCK: i64 = u32::MAX as i64;
-pub const MOST_WAITING: usize = 65_535;
 
 #[derive(Clone, Copy, Debug, PartialEq, Eq, Hash, PartialOrd, Ord)]
 pub enum Side {
@@ -49,7 +49,7 @@ pub struct Bucket {
 /// The five words of a delivery: flow, serial, entry cycle, exit cycle, D.
 pub type Delivery = [u32; 5];
 
-#[derive(Clone, Debug)]
+#[derive(Clone, Debug, PartialEq, Eq)]
 pub struct Book {
     pub plan: Plan,
     pub clock: i64,
@@ -83,27 +83,6 @@ impl Book {
             entered: vec![0; flows],
             plan,
         }
-    }
-
-    pub fn offer(&mut self, flow: u32) -> Result<u64, Refusal> {
-        let flow = flow as usize;
-        if flow >= self.plan.flows.len() {
-            return refuse(12, 0);
-        }
-        if self.waiting[flow].len() >= MOST_WAITING {
-            return refuse(13, 0);
-        }
-        self.add_waiting_line(flow);
-        Ok(0)
-    }
-
-    /// A new waiting line: its serial is one more than the flow's lines so far.
-    pub fn add_waiting_line(&mut self, flow: usize) {
-        let q = self.waiting[flow].len() as i64;
-        let serial = self.entered[flow] + q + 1;
-        self.waiting[flow].push_back(self.lines.len());
-        let (offer, d) = (self.clock, 0);
-        self.lines.push(Line { flow, serial, offer, q, d, entry: None, place: None, exit: None });
     }
 
     /// Drops the lines that have left. For a search, which looks at the future only.

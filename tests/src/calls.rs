@@ -1,4 +1,4 @@
-//! Each call as 01 states it, on lent memory: what it answers and what the memory is afterwards.
+//! Each call as 01 or 02 states it, on lent memory: what it answers and what the memory is afterwards.
 
 use crate::book::Book;
 use crate::plan::{MOST_BYTES, RECORD, Refusal, TRAILER, read, refuse};
@@ -32,6 +32,14 @@ fn lay_down(book: &Book, memory: &mut [u32]) {
 pub fn offer(memory: &mut [u32], flow: u32) -> Answer {
     let mut book = judge(memory)?;
     book.offer(flow)?;
+    lay_down(&book, memory);
+    Ok(0)
+}
+
+/// A set of offers: 8 and 9, then 12 or 13 of the first entry that would be refused.
+pub fn offer_set(memory: &mut [u32], flows: &[u32]) -> Answer {
+    let mut book = judge(memory)?;
+    book.offer_set(flows)?;
     lay_down(&book, memory);
     Ok(0)
 }

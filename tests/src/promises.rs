@@ -1,6 +1,8 @@
-//! What 01 promises of the book after every list, asserted on its own lines.
+//! What 01 promises of the book after every list, and U4 of a set, asserted on its own lines.
 
 use crate::book::{Book, Delivery, Line};
+use crate::calls::Answer;
+use crate::plan::Refusal;
 use crate::window::window;
 
 /// The windows of the flows whose entry promise is watched (None: not watched, or no window).
@@ -31,6 +33,20 @@ pub fn check_live(book: &Book, windows: &Windows) {
     for &line in book.placed.iter().chain(waiting) {
         check_line(book, windows, &book.lines[line]);
     }
+}
+
+/// U4 on a set that was answered so: accepted, it leaves what its single offers leave, one after the
+/// other; refused, it leaves the book as it was, and its number is that of the first of these that is
+/// refused, whose position is the place.
+pub fn check_set(before: &Book, flows: &[u32], answer: Answer, after: &Book) {
+    let mut single = before.clone();
+    let refused = flows.iter().enumerate().find_map(|(position, &flow)| {
+        let number = single.offer(flow).err()?.number;
+        Some(Refusal { number, place: position as u64 })
+    });
+    assert_eq!(answer, refused.map_or(Ok(0), Err), "the first entry that is refused");
+    let left = if refused.is_some() { before } else { &single };
+    assert!(after == left, "all at once, one by one: {flows:?}");
 }
 
 fn check_line(book: &Book, windows: &Windows, line: &Line) {
