@@ -4,11 +4,12 @@
 //! and that state's words are the same.
 
 use second::book::Book;
-use second::promises::{check, check_live, windows};
+use second::compare::sets::list;
+use second::promises::{check, check_live, check_set, windows};
 use second::random::{Random, plan};
 use second::state::{judge, words};
 
-/// A list of so many calls: offers, some of them to a flow that isn't there, and steps.
+/// A list of so many calls: offers, some of them to a flow that isn't there, sets and steps.
 fn run(random: &mut Random, mut book: Book, calls: usize) {
     let flows = book.plan.flows.len();
     let watched = random.index(flows);
@@ -17,7 +18,11 @@ fn run(random: &mut Random, mut book: Book, calls: usize) {
     let room = 5 * book.plan.routers();
     let mut delivered = Vec::new();
     for _ in 0..calls {
-        if random.percent(offers) {
+        if random.percent(5) {
+            let (before, set) = (book.clone(), list(random, flows));
+            let answer = book.offer_set(&set);
+            check_set(&before, &set, answer, &book);
+        } else if random.percent(offers) {
             let flow = random.index(flows + 1) as u32;
             assert_eq!(book.offer(flow).is_ok(), (flow as usize) < flows);
         } else {

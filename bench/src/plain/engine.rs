@@ -1,7 +1,8 @@
-//! Reset, offer, step, recent flights and write.
+//! Reset, offer, step and write; sets of offers and recent flights are called from here.
 
 use super::plan::{numbers, read};
 use super::recent::recent;
+use super::sets::offer_set;
 use super::state::{EMPTY, FlowWords, Register, State, state};
 use super::{Plain, next, refused};
 use second::host::Engine;
@@ -118,6 +119,10 @@ impl Engine for Plain {
                 0
             }
         }
+    }
+
+    fn offer_set(&self, words: &mut [u32], flows: &[u32]) -> u64 {
+        offer_set(words, flows)
     }
 
     fn step(&self, words: &mut [u32], delivery: &mut [u32]) -> u64 {

@@ -1,10 +1,11 @@
 //! The calls in plain Rust: the honest baseline. Written for speed, with every check of 01's
-//! table and of U1, on the same memory; safe Rust with no heap.
+//! table, of U1 and of U4, on the same memory; safe Rust with no heap.
 
 mod bounds;
 mod engine;
 mod plan;
 mod recent;
+mod sets;
 mod state;
 
 /// The plain engine.

@@ -57,6 +57,10 @@ impl Engine for Faulty {
         self.give(Given { call: "offer", answer, state, delivery: &mut [], target: &mut [] })
     }
 
+    fn offer_set(&self, state: &mut [u32], flows: &[u32]) -> u64 {
+        returned(calls::offer_set(state, flows))
+    }
+
     fn step(&self, state: &mut [u32], delivery: &mut [u32]) -> u64 {
         let answer = returned(calls::step(state, delivery));
         self.give(Given { call: "step", answer, state, delivery, target: &mut [] })

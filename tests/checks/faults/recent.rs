@@ -28,6 +28,10 @@ impl Engine for Faulty {
         returned(calls::offer(state, flow))
     }
 
+    fn offer_set(&self, state: &mut [u32], flows: &[u32]) -> u64 {
+        returned(calls::offer_set(state, flows))
+    }
+
     fn step(&self, state: &mut [u32], delivery: &mut [u32]) -> u64 {
         returned(calls::step(state, delivery))
     }

@@ -1,4 +1,4 @@
-//! The engine's calls one at a time, on any memory: answer and memory as 01 states them.
+//! The engine's calls one at a time, on any memory: answer and memory as 01 and 02 state them.
 
 use super::{Call, Tally, Twin};
 use crate::calls;
@@ -9,6 +9,7 @@ use crate::random::Random;
 pub fn all_came_up(tally: &Tally) {
     tally.must_have_come_up("reset", &[1, 2, 3, 4, 5, 6, 7, 8]);
     tally.must_have_come_up("offer", &[8, 9, 12, 13]);
+    tally.must_have_come_up("offer_set", &[8, 9, 12, 13]);
     tally.must_have_come_up("step", &[8, 9, 10, 11]);
     tally.must_have_come_up("recent", &[8, 9, 16, 17, 12]);
     tally.must_have_come_up("write", &[8, 9, 1, 15]);
@@ -29,6 +30,23 @@ pub fn offer(host: &impl Engine, tally: &mut Tally, state: &mut Twin<u32>, flow:
     let call = Call { name: "offer", with: &(flow, before) };
     tally.answer(call, expected, got);
     tally.memory(call, state);
+}
+
+/// A set: is it to be accepted? The list is compared too: it stays.
+pub fn offer_set(
+    host: &impl Engine,
+    tally: &mut Tally,
+    state: &mut Twin<u32>,
+    flows: &mut Twin<u32>,
+) -> bool {
+    let before = state.expected().to_vec();
+    let expected = calls::offer_set(state.expected(), flows.expected());
+    let got = host.offer_set(state.got(), flows.got());
+    let call = Call { name: "offer_set", with: &(flows.expected().to_vec(), before) };
+    tally.answer(call, expected, got);
+    tally.memory(call, state);
+    tally.memory(call, flows);
+    expected.is_ok()
 }
 
 /// A step that is lent so many words of noise for its deliveries. Gives these and the count of exits,

@@ -2,16 +2,17 @@
 //! call its answer, its deliveries and the words of its state are compared, whole.
 
 use super::recent::{self, Kept};
-use super::{Call, Tally, Twin, engine};
+use super::{Call, Tally, Twin, engine, sets};
 use crate::book::{Book, Delivery};
 use crate::calls::Answer;
 use crate::host::Engine;
 use crate::plan::Plan;
-use crate::promises::{Windows, check, check_live, windows};
+use crate::promises::{Windows, check, check_live, check_set, windows};
 use crate::random::{self, Random};
 use crate::slips::{met_exactly, refuted};
 use crate::state::words;
 use crate::worst::{Worst, worst_wait};
+use std::fmt::Debug;
 
 /// A list under way.
 pub struct List<'a, E> {
@@ -42,7 +43,18 @@ impl<'a, E: Engine> List<'a, E> {
     pub fn offer(&mut self, tally: &mut Tally, flow: u32) {
         let expected = self.book.offer(flow);
         let got = self.host.offer(self.state.got(), flow);
-        self.compare(tally, "offer", flow as usize, expected, got);
+        self.compare(tally, "offer", &flow, expected, got);
+    }
+
+    /// A set, lent with other entries around it.
+    pub fn offer_set(&mut self, tally: &mut Tally, random: &mut Random, flows: &[u32]) {
+        let mut lent = sets::lent(random, flows, self.book.plan.flows.len());
+        let before = self.book.clone();
+        let expected = self.book.offer_set(flows);
+        check_set(&before, flows, expected, &self.book);
+        let got = self.host.offer_set(self.state.got(), lent.got());
+        self.compare(tally, "offer_set", &flows, expected, got);
+        tally.memory(Call { name: "offer_set", with: &(flows, &self.file) }, &lent);
     }
 
     /// A step that is lent so many words for its deliveries.
@@ -56,7 +68,7 @@ impl<'a, E: Engine> List<'a, E> {
             self.delivered.extend(exits);
         }
         let got = self.host.step(self.state.got(), delivery.got());
-        self.compare(tally, "step", room, expected, got);
+        self.compare(tally, "step", &room, expected, got);
         let with = &("deliveries", self.book.clock, &self.file);
         tally.memory(Call { name: "step", with }, &delivery);
         if let Ok(exits) = expected {
@@ -68,7 +80,7 @@ impl<'a, E: Engine> List<'a, E> {
         &mut self,
         tally: &mut Tally,
         name: &'static str,
-        with: usize,
+        with: &dyn Debug,
         expected: Answer,
         got: u64,
     ) {
@@ -88,7 +100,7 @@ impl<'a, E: Engine> List<'a, E> {
             self.state.lent.end = whole.start + random.index(size);
         }
         let short = self.state.lent != whole;
-        match random.from(0, 4) {
+        match random.from(0, 5) {
             0 if short => engine::offer(self.host, tally, &mut self.state, 0),
             1 if short => drop(engine::step(self.host, tally, random, &mut self.state, 1280)),
             2 if short => engine::reset(self.host, tally, &self.file, &mut self.state),
@@ -96,7 +108,11 @@ impl<'a, E: Engine> List<'a, E> {
                 let cut = &self.file[..random.index(self.file.len())];
                 engine::reset(self.host, tally, cut, &mut self.state)
             }
-            3 => {
+            3 if short => {
+                let flows = self.book.plan.flows.len();
+                sets::on_words(self.host, tally, random, &mut self.state, flows)
+            }
+            4 => {
                 let flows = self.book.plan.flows.len();
                 recent::on_words(self.host, tally, random, &mut self.state, flows)
             }
@@ -130,6 +146,10 @@ fn run(host: &impl Engine, tally: &mut Tally, random: &mut Random, plan: Plan, c
                 list.step(tally, random, short)
             }
             3..7 => list.unfed(tally, random),
+            7..10 => {
+                let flows = sets::list(random, flows);
+                list.offer_set(tally, random, &flows)
+            }
             _ if random.percent(steps) => {
                 let past = random.index(7);
                 list.step(tally, random, room + past)
@@ -148,7 +168,8 @@ pub fn round(host: &impl Engine, tally: &mut Tally, random: &mut Random, sx: i64
     run(host, tally, random, plan, calls);
 }
 
-/// A saturated run: before each step an offer of every flow that has few packets waiting.
+/// A saturated run: before each step an offer of every flow that has few packets waiting, one by one
+/// or as a set.
 pub fn saturated(
     host: &impl Engine,
     tally: &mut Tally,
@@ -157,13 +178,15 @@ pub fn saturated(
     steps: usize,
 ) {
     let room = 5 * plan.routers();
-    let flows = plan.flows.len();
+    let flows = plan.flows.len() as u32;
     let mut list = List::new(host, tally, random, plan);
     for _ in 0..steps {
-        for flow in 0..flows {
-            if list.book.waiting[flow].len() < 2 {
-                list.offer(tally, flow as u32);
-            }
+        let few = |flow: &u32| list.book.waiting[*flow as usize].len() < 2;
+        let flows: Vec<u32> = (0..flows).filter(few).collect();
+        if random.percent(50) {
+            list.offer_set(tally, random, &flows);
+        } else {
+            flows.into_iter().for_each(|flow| list.offer(tally, flow));
         }
         list.step(tally, random, room);
     }
@@ -183,7 +206,27 @@ pub fn full_queue(host: &impl Engine, tally: &mut Tally, random: &mut Random) {
     list.end();
 }
 
-/// The lists that refute each slipped window, and the one that meets the bound.
+/// Really long sets, one past the room of two queues and one that nearly fills them; sets that are
+/// refused at the brim, in front of and behind a number that isn't a flow's; and steps between sets.
+pub fn full_queues_by_sets(host: &impl Engine, tally: &mut Tally, random: &mut Random) {
+    let mut list = List::new(host, tally, random, met_exactly().0);
+    for entries in [65_536, 65_532] {
+        list.offer_set(tally, random, &[1, 3].repeat(entries));
+    }
+    for flows in [&[1, 1, 1, 1][..], &[3, 1, 3, 1, 1], &[3, 3], &[3], &[1, 3], &[3]] {
+        list.offer_set(tally, random, flows);
+    }
+    for _ in 0..9 {
+        for flows in [&[0, 1, 1][..], &[2, 4, 1, 1], &[0, 1, 3, 1, 4, 3], &[1, 3], &[]] {
+            list.offer_set(tally, random, flows);
+        }
+        list.step(tally, random, 80);
+    }
+    list.end();
+}
+
+/// The lists that refute each slipped window, and the one that meets the bound, with single offers and
+/// with a set before each step.
 pub fn worst_lists(host: &impl Engine, tally: &mut Tally, random: &mut Random) {
     let lists = refuted().into_iter().map(|row| {
         let worst = worst_wait(&row.plan, row.f);
@@ -191,13 +234,17 @@ pub fn worst_lists(host: &impl Engine, tally: &mut Tally, random: &mut Random) {
     });
     for (plan, Worst { offers, .. }) in lists.chain([met_exactly()]) {
         let room = 5 * plan.routers();
-        let mut list = List::new(host, tally, random, plan);
-        for flows in offers {
-            for flow in flows {
-                list.offer(tally, flow);
+        for by_sets in [false, true] {
+            let mut list = List::new(host, tally, random, plan.clone());
+            for flows in &offers {
+                if by_sets {
+                    list.offer_set(tally, random, flows);
+                } else {
+                    flows.iter().for_each(|&flow| list.offer(tally, flow));
+                }
+                list.step(tally, random, room);
             }
-            list.step(tally, random, room);
+            list.end();
         }
-        list.end();
     }
 }

@@ -9,6 +9,7 @@ pub mod lists;
 pub mod parts;
 pub mod plans;
 pub mod recent;
+pub mod sets;
 pub mod states;
 
 use crate::calls::Answer;

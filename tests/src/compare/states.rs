@@ -1,7 +1,7 @@
 //! States that no run reaches, damaged words, and lent lengths from 0.
 
 use super::recent::{self, Kept};
-use super::{Tally, Twin, engine, plans};
+use super::{Tally, Twin, engine, plans, sets};
 use crate::book::{Book, Side};
 use crate::host::Engine;
 use crate::plan::{Flow, MOST_BYTES, Plan};
@@ -19,7 +19,7 @@ pub fn boundaries(host: &impl Engine, tally: &mut Tally, random: &mut Random) {
         for value in telling_values(small[at]) {
             let mut state = small.clone();
             state[at] = value;
-            four_calls(host, tally, random, &state);
+            five_calls(host, tally, random, &state);
             if at < HEADER {
                 // What the first eight words say comes before the length of the rest.
                 calls_with_past(host, tally, random, &state[..HEADER], 0);
@@ -54,9 +54,9 @@ fn telling_values(word: u32) -> Vec<u32> {
     near.into_iter().chain(ends).chain([u32::MAX - 1, u32::MAX]).collect()
 }
 
-/// Offer, step, recent flights and write, each on its own copy of the words, with some noise past
-/// them.
-fn four_calls(host: &impl Engine, tally: &mut Tally, random: &mut Random, state: &[u32]) {
+/// Offer, a set of offers, step, recent flights and write, each on its own copy of the words, with
+/// some noise past them.
+fn five_calls(host: &impl Engine, tally: &mut Tally, random: &mut Random, state: &[u32]) {
     let past = random.index(5);
     calls_with_past(host, tally, random, state, past);
 }
@@ -75,6 +75,8 @@ fn calls_with_past(
     };
     let flow = if random.percent(5) { random.word() } else { random.from(0, flows as i64) as u32 };
     engine::offer(host, tally, &mut Twin::words(random, state, past), flow);
+    let filled = &mut Twin::words(random, state, past);
+    sets::on_words(host, tally, random, filled, flows as usize);
     let room = match random.from(0, 9) {
         0 => random.index(5 * routers + 1),
         1 => (5 * routers).saturating_sub(1),
@@ -118,7 +120,7 @@ pub fn round(host: &impl Engine, tally: &mut Tally, random: &mut Random, sx: i64
     let flows = random::flow_count(random);
     let plan = random::plan(random, sx, sy, flows);
     let state = random::state(random, &plan);
-    four_calls(host, tally, random, &state);
+    five_calls(host, tally, random, &state);
     let mut run = Twin::words(random, &state, 2);
     let mut kept = Kept::new(random, flows);
     for _ in 0..random.from(1, 12) {
@@ -130,13 +132,13 @@ pub fn round(host: &impl Engine, tally: &mut Tally, random: &mut Random, sx: i64
     for _ in 0..8 {
         let mut damaged = state.clone();
         damage(random, &plan, &mut damaged);
-        four_calls(host, tally, random, &damaged);
+        five_calls(host, tally, random, &damaged);
     }
     let file = plan.file(&random::notes(random, &plan));
     let length = (plan.state_words() + random.index(4)).saturating_sub(1);
     let mut memory = Twin::noise_words(random, length);
     engine::reset(host, tally, &file, &mut memory);
-    four_calls(host, tally, random, memory.expected());
+    five_calls(host, tally, random, memory.expected());
     let mut damaged = file;
     plans::damage(random, &mut damaged);
     engine::reset(host, tally, &damaged, &mut memory);
