@@ -6,6 +6,7 @@ mod faults {
     pub mod engine;
     pub mod listing;
     pub mod recent;
+    pub mod sets;
 }
 
 use second::compare::listing;
@@ -32,6 +33,14 @@ fn in_recent_flights() -> Vec<Planted<'static>> {
         (name.to_string(), Box::new(move || drop(parts::engine(&host, 1, Extent::Gate))))
     };
     faults::recent::FAULTS.iter().map(planted).collect()
+}
+
+fn in_sets() -> Vec<Planted<'static>> {
+    let planted = |(name, fault): &(&str, faults::sets::Fault)| -> Planted<'static> {
+        let host = faults::sets::Faulty(*fault);
+        (name.to_string(), Box::new(move || drop(parts::engine(&host, 1, Extent::Gate))))
+    };
+    faults::sets::FAULTS.iter().map(planted).collect()
 }
 
 fn in_the_bounds() -> Vec<Planted<'static>> {
@@ -82,7 +91,8 @@ fn is_noticed(compared: &dyn Fn()) -> bool {
 fn faults_are_noticed() {
     let hook = take_hook();
     set_hook(Box::new(|_| ()));
-    let planted = [in_the_engine(), in_recent_flights(), in_the_bounds(), in_the_listing()];
+    let planted =
+        [in_the_engine(), in_recent_flights(), in_sets(), in_the_bounds(), in_the_listing()];
     let missed: Vec<_> = planted
         .iter()
         .flatten()
