@@ -11,15 +11,18 @@ unsafe extern "C" {
     static hrt_side: AtomicU8;
 }
 
-const BEFORE_AND_NOW: Sides = Sides { names: ["before", "now"], before_turn: take };
-
 fn take(side: usize) {
     // SAFETY: a byte of the archive's own, which nobody else writes.
     unsafe { hrt_side.store(side as u8, Ordering::Relaxed) }
 }
 
-/// Times every call of both.
-pub fn time() {
-    calls::bounds(BEFORE_AND_NOW, &Archive, &Archive);
-    calls::engine(BEFORE_AND_NOW, &Archive, &Archive);
+/// Times the calls that both have. What the archive before lacks goes on to this one whatever the
+/// switch says, so it isn't timed.
+pub fn time(lacking: &[&str]) {
+    let sides = Sides { names: ["before", "now"], before_turn: take, lacking };
+    calls::bounds(sides, &Archive, &Archive);
+    calls::engine(sides, &Archive, &Archive);
+    for function in lacking {
+        println!("{function}: not timed, the archive before lacks it");
+    }
 }

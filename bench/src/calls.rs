@@ -8,6 +8,8 @@ use second::recent::Record;
 use std::hint::black_box;
 
 const BATCH: usize = 50;
+/// The entries of a long list. A batch of them fits into the queues, as every flow comes in turn.
+const LONG: usize = 4096;
 
 fn cases(loads: &[Load]) -> Vec<Case> {
     SIZES
@@ -47,7 +49,7 @@ fn all_bounds(host: &impl Bounds, case: &Case) {
     }
 }
 
-/// Step, offer, recent flights, reset and write.
+/// Step, offer, sets of offers, recent flights, reset and write: the calls that both sides have.
 pub fn engine(sides: Sides, first: &impl Engine, second: &impl Engine) {
     sides.print_header();
     for case in cases(&[Load::Light, Load::Saturated]) {
@@ -62,16 +64,31 @@ pub fn engine(sides: Sides, first: &impl Engine, second: &impl Engine) {
             &case,
             sides.alternate(BATCH, offers(first, &case, &state), offers(second, &case, &state)),
         );
-        for (name, last) in [("recent16", 16), ("recent 4", 4)] {
-            print_row(
-                name,
-                &case,
-                sides.alternate(
-                    BATCH,
-                    feeds(first, &case, &state, last),
-                    feeds(second, &case, &state, last),
-                ),
-            );
+        if sides.both_have("hrt_offer_set") {
+            for (name, entries) in [("set", case.flows), ("set 4096", LONG)] {
+                print_row(
+                    name,
+                    &case,
+                    sides.alternate(
+                        BATCH,
+                        sets(first, &case, &state, entries),
+                        sets(second, &case, &state, entries),
+                    ),
+                );
+            }
+        }
+        if sides.both_have("hrt_recent") {
+            for (name, last) in [("recent16", 16), ("recent 4", 4)] {
+                print_row(
+                    name,
+                    &case,
+                    sides.alternate(
+                        BATCH,
+                        feeds(first, &case, &state, last),
+                        feeds(second, &case, &state, last),
+                    ),
+                );
+            }
         }
         print_row(
             "reset",
@@ -105,6 +122,18 @@ fn offers(host: &impl Engine, case: &Case, state: &[u32]) -> impl FnMut() {
         memory.copy_from_slice(state);
         for call in 0..BATCH {
             black_box(host.offer(&mut memory, (call % flows) as u32));
+        }
+    }
+}
+
+/// Sets of so many entries, with every flow in turn.
+fn sets(host: &impl Engine, case: &Case, state: &[u32], entries: usize) -> impl FnMut() {
+    let mut memory = state.to_vec();
+    let list: Vec<u32> = (0..entries).map(|entry| (entry % case.flows) as u32).collect();
+    move || {
+        memory.copy_from_slice(state);
+        for _ in 0..BATCH {
+            black_box(host.offer_set(&mut memory, &list));
         }
     }
 }

@@ -22,7 +22,8 @@ use times::PLAIN_AND_ARCHIVE;
 
 const USAGE: &str =
     "usage: bench bounds|engine          times the archive's calls (--features bounds, engine)
-       bench before                 times it beside another archive (--features before)
+       bench before [LACKING..]     times it beside another archive (--features before), but for the
+                                    functions that the other lacks
        bench desk PROGRAM           times a million offers through the desk (--features engine)
        bench listing PROGRAM        times the listing program
        bench agree                  compares plain Rust with the second simulator";
@@ -39,7 +40,12 @@ fn main() {
         #[cfg(feature = "engine")]
         ["engine"] => calls::engine(PLAIN_AND_ARCHIVE, &Plain, &second::archive::Archive),
         #[cfg(feature = "before")]
-        ["before"] => before::time(),
+        ["before", ref lacking @ ..] => {
+            match lacking.iter().find(|name| !name.starts_with("hrt_")) {
+                None => before::time(lacking),
+                Some(word) => wrong(&format!("there is no option '{word}'")),
+            }
+        }
         #[cfg(feature = "engine")]
         ["desk", program] if !program.starts_with("--") => {
             desk::time(program, &second::archive::Archive)
@@ -48,7 +54,7 @@ fn main() {
         ["plain-listing"] => listing::plain(),
         ["agree"] => agree(),
         [part @ ("listing" | "desk")] => wrong(&format!("the part {part} takes a program")),
-        ["bounds" | "engine" | "before" | "agree", word, ..]
+        ["bounds" | "engine" | "agree", word, ..]
         | ["listing" | "desk", _, word, ..]
         | ["listing" | "desk", word] => wrong(&format!("there is no option '{word}'")),
         [part, ..] => wrong(&format!("there is no part '{part}'")),

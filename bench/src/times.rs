@@ -3,15 +3,17 @@
 use crate::loads::Case;
 use std::time::{Duration, Instant};
 
-/// Two engines side by side: what each is called, and what is done before a turn of the first (0)
-/// or the second (1).
+/// Two engines side by side: what each is called, what is done before a turn of the first (0) or the
+/// second (1), and the functions that the first lacks.
 #[derive(Clone, Copy)]
-pub struct Sides {
+pub struct Sides<'a> {
     pub names: [&'static str; 2],
     pub before_turn: fn(usize),
+    pub lacking: &'a [&'a str],
 }
 
-pub const PLAIN_AND_ARCHIVE: Sides = Sides { names: ["plain", "archive"], before_turn: |_| () };
+pub const PLAIN_AND_ARCHIVE: Sides =
+    Sides { names: ["plain", "archive"], before_turn: |_| (), lacking: &[] };
 
 /// Pairs of turns: the first engine, then the second. Others share the machine, so the best turn of each
 /// gives its time, and the median of the pairs' ratios the ratio.
@@ -26,7 +28,11 @@ pub struct Times {
     ratio: f64,
 }
 
-impl Sides {
+impl Sides<'_> {
+    pub fn both_have(self, function: &str) -> bool {
+        !self.lacking.contains(&function)
+    }
+
     /// The times of two works. Each does a batch of so many calls.
     pub fn alternate(
         self,
