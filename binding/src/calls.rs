@@ -84,9 +84,7 @@ pub fn offer(state: &mut [u32], flow: u32) -> u64 {
 /// Offers one packet for each entry of a list of flows, all or none. Answers 0.
 #[inline]
 pub fn offer_set(state: &mut [u32], flows: &[u32]) -> u64 {
-    unsafe {
-        raw::hrt_offer_set(state.as_mut_ptr(), state.len(), flows.as_ptr(), flows.len())
-    }
+    unsafe { raw::hrt_offer_set(state.as_mut_ptr(), state.len(), flows.as_ptr(), flows.len()) }
 }
 
 /// One cycle. Answers the number of exits, for each of which it delivers five words.
