@@ -7,11 +7,11 @@ type Wrong = String;
 
 /// The number that a field of digits gives, held to its range. `name` says what it is.
 pub fn number(field: &[u8], name: &str, least: u32, most: u32) -> Result<u32, Wrong> {
-    let range = format!("it must be {least} to {most}");
+    let wrong = |is: String| Err(format!("{name} is {is}; it must be {least} to {most}"));
     match decimal(field) {
-        None => Err(format!("{name} is '{}', which is no whole number; {range}", quoted(field))),
+        None => wrong(format!("'{}', which is no whole number", quoted(field))),
         Some(number) if (u64::from(least)..=u64::from(most)).contains(&number) => Ok(number as u32),
-        Some(_) => Err(format!("{name} is {}; {range}", quoted(field))),
+        Some(_) => wrong(quoted(field)),
     }
 }
 

@@ -4,6 +4,7 @@ mod bytes;
 mod end;
 mod ending;
 mod input;
+mod offering;
 mod offers;
 mod output;
 mod plan;

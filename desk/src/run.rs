@@ -1,9 +1,10 @@
-//! `run`: a stream of offers through the archive, each offered before the step of its cycle.
+//! `run`: a stream of offers through the archive, each made before the step of its cycle.
 
 use crate::end::End;
 use crate::ending::Ending;
 use crate::input::{self, is_standard, read_plan};
-use crate::offers::{Next, Offer, Offers};
+use crate::offering::{offer, offer_set, Wrong};
+use crate::offers::{Next, Of, Offer, Offers, LINE};
 use crate::output::Output;
 use crate::plan::cant_print;
 use crate::progress::Progress;
@@ -35,7 +36,7 @@ pub fn run(request: Request) -> Result<(), Ending> {
     let plan = read_plan(&request.plan)?;
     let offers = input::open(&request.offers)?;
     if is_standard(&request.offers) && stdin().is_terminal() {
-        eprintln!("offers are read from here: a line CYCLE FLOW each, and ctrl-D at the end");
+        eprintln!("offers are read from here: a line {LINE} each, and ctrl-D at the end");
     }
     signals::note_interrupts().map_err(|why| Ending::failed(format!("no pipe: {why}")))?;
     let state = plan.reset().map_err(refused_plan)?;
@@ -65,6 +66,8 @@ fn refused_plan(refusal: Refusal) -> Ending {
 struct Run<R> {
     state: State,
     tallies: Vec<Tally>,
+    /// Room for the queues that a set finds.
+    queues: Vec<u32>,
     records: Option<Records>,
     offers: Offers<R>,
     /// An offer that is read, and whose cycle hasn't come.
@@ -86,6 +89,7 @@ impl<R: Read> Run<R> {
     fn new(state: State, tallies: Vec<Tally>, offers: Offers<R>) -> Run<R> {
         Run {
             state,
+            queues: vec![0; tallies.len()],
             tallies,
             records: None,
             offers,
@@ -163,32 +167,24 @@ impl<R: Read> Run<R> {
         Ok(signals::noted().map(End::Signal))
     }
 
-    fn offer(&mut self, offer: Offer) -> Option<End> {
-        let flow = offer.flow as usize;
-        let waiting = if flow < self.tallies.len() { self.state.waiting(flow) } else { 0 };
-        let answer = self.state.offer(offer.flow);
-        match answer {
-            Answer::Done(_) => {
-                self.tallies[flow].accept(offer.cycle, waiting);
-                self.tallies[flow].offered += 1;
-                self.offered += 1;
-                self.here += 1;
+    /// Offers what a line has.
+    fn offer(&mut self, line: Offer) -> Option<End> {
+        let Run { state, tallies, queues, offers, .. } = self;
+        let (packets, accepted) = match line.of {
+            Of::Flow(flow) => (1, offer(state, tallies, line.cycle, flow)),
+            Of::Set => {
+                let flows = offers.set();
+                (flows.len() as u64, offer_set(state, tallies, queues, line.cycle, flows))
+            }
+        };
+        match accepted {
+            Ok(accepted) => {
+                self.offered += packets;
+                self.here += accepted;
                 None
             }
-            Answer::Refused(Refusal { number: 13, .. }) => {
-                self.tallies[flow].offered += 1;
-                self.tallies[flow].refused += 1;
-                self.offered += 1;
-                None
-            }
-            Answer::Refused(refusal @ Refusal { number: 12, .. }) => {
-                let last = self.tallies.len() - 1;
-                let text = format!(
-                    "flow {flow} is not in the plan; its flows are 0 to {last} ({refusal})"
-                );
-                Some(End::Fault(self.offers.at_line(&text)))
-            }
-            Answer::Refused(refusal) => Some(End::Broken(format!("an offer is {refusal}"))),
+            Err(Wrong::Unknown(text)) => Some(End::Fault(self.offers.at_line(&text))),
+            Err(Wrong::Broken(text)) => Some(End::Broken(text)),
         }
     }
 
@@ -336,6 +332,26 @@ mod tests {
         assert_eq!(run.records.as_ref().unwrap().cells(0), ["0", "-", "-"]);
         assert_eq!(run.go_to_end().unwrap(), End::Left);
         assert_eq!(run.records.unwrap().cells(0), ["2", "8", "0"]);
+    }
+
+    #[test]
+    fn a_set_is_offered_in_its_cycle() {
+        let mut run = run_from(0, "0 0\n4 0 0 0\n5 0\n");
+        run.cycles = Some(5);
+        assert_eq!(run.go_to_end().unwrap(), End::Cycles);
+        assert_eq!((run.offered, run.left, run.here), (4, 0, 4));
+        run.cycles = None;
+        assert_eq!(run.go_to_end().unwrap(), End::Left);
+        assert_eq!((run.offered, run.left, run.here), (5, 5, 0));
+    }
+
+    #[test]
+    fn a_faulty_set_is_told_with_its_line() {
+        let mut run = run_from(0, "0 0\n4 0 1 0\n");
+        let text = "flow 1, the line's 2nd flow, is not in the plan; its flows are 0 to 0";
+        let fault = format!("offers:2: {text} (refused 12 1)");
+        assert_eq!(run.go_to_end().unwrap(), End::Fault(fault));
+        assert_eq!((run.state.clock(), run.offered, run.here), (4, 1, 1));
     }
 
     #[test]

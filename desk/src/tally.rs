@@ -18,7 +18,8 @@ impl Wait {
     }
 }
 
-/// An accepted packet: when it was offered, and how many of its flow were waiting then.
+/// An accepted packet: when it was offered, and how many of its flow were waiting then, those before
+/// it in its own set among them.
 #[derive(Clone, Copy)]
 struct Accepted {
     offer: u32,
@@ -66,7 +67,14 @@ impl Tally {
 
     /// An offer that was accepted in this cycle, with so many of the flow waiting.
     pub fn accept(&mut self, cycle: u32, waiting: u32) {
+        self.offered += 1;
         self.packets.push_back(Accepted { offer: cycle, q: waiting as u16, left: false });
+    }
+
+    /// An offer that was refused for want of room in a queue.
+    pub fn refuse(&mut self) {
+        self.offered += 1;
+        self.refused += 1;
     }
 
     /// A packet that has left: when it was offered.
@@ -167,6 +175,12 @@ impl Tally {
         };
         self.nearest = Some(self.nearest.map_or(spare, |nearest| nearest.min(spare)));
         Ok(())
+    }
+
+    /// The q of each packet that hasn't left, by serial.
+    #[cfg(test)]
+    pub fn queues(&self) -> Vec<u16> {
+        self.packets.iter().map(|packet| packet.q).collect()
     }
 
     fn broken(&self, serial: u32, what: &str, found: u64, bound: u64) -> Broken {
