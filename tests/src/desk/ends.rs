@@ -147,7 +147,8 @@ fn standard_streams(program: &Program, tally: &mut Tally) {
         let run = program.call(tally, &["run", "a mode.plan", name, "--summary"], b"0 0");
         assert!(run.out.ends_with(b"ended at cycle 2: everything has left\n"), "{run:?}");
         let run = program.call(tally, &["run", "--summary", "--", name, "mode.txt"], &plan);
-        assert_eq!(run.err, "mode.txt:1: what is 'torus 4 4'? a line is CYCLE FLOW, as 120 3\n");
+        let cycle = "the cycle is 'torus', which is no whole number; it must be 0 to 4294967294";
+        assert_eq!(run.err, format!("mode.txt:1: {cycle}\n"));
     }
     write(&program.file("old.plan"), b"old");
     std::os::unix::fs::symlink("old.plan", program.file("link")).unwrap();

@@ -1,6 +1,6 @@
-//! What `run` prints, by the packet book's lines and U1's records.
+//! What `run` prints, by the packet book's lines, U1's records and U4's sets of flows.
 
-use crate::book::{Book, Line};
+use crate::book::{Book, Line, MOST_WAITING};
 use crate::plan::Plan;
 use crate::recent::{Record, feed};
 use crate::window::{flight_bound, window};
@@ -9,10 +9,8 @@ use std::fmt::Write;
 /// A stream's next line.
 #[derive(Clone, Debug)]
 pub enum Entry {
-    Offer {
-        cycle: i64,
-        flow: u32,
-    },
+    /// A packet for each flow that is named: every one is accepted or none is.
+    Offer { cycle: i64, flows: Vec<u32> },
     /// A line that is no offer of this plan, or goes back.
     Fault,
 }
@@ -76,18 +74,17 @@ fn ran(plan: &Plan, entries: &[Entry], options: Options) -> Run {
         while let Some(entry) = entries.peek() {
             match entry {
                 Entry::Offer { cycle, .. } if *cycle > clock => break,
-                Entry::Offer { flow, .. } => {
-                    let f = *flow as usize;
-                    run.offered[f] += 1;
-                    match run.book.offer(*flow) {
-                        Ok(_) => {
-                            let line = run.book.lines.last().unwrap();
-                            by_packet.insert((line.flow, line.serial), run.book.lines.len() - 1);
+                Entry::Offer { flows, .. } => {
+                    let has_room = has_room(&run.book, flows);
+                    for &flow in flows {
+                        run.offered[flow as usize] += 1;
+                        if !has_room {
+                            run.refused[flow as usize] += 1;
+                            continue;
                         }
-                        Err(no) => {
-                            assert_eq!(no.number, 13);
-                            run.refused[f] += 1;
-                        }
+                        run.book.offer(flow).unwrap();
+                        let line = run.book.lines.last().unwrap();
+                        by_packet.insert((line.flow, line.serial), run.book.lines.len() - 1);
                     }
                     entries.next();
                 }
@@ -110,6 +107,15 @@ fn ran(plan: &Plan, entries: &[Entry], options: Options) -> Run {
             }
         }
     }
+}
+
+/// Is there room for a packet of each of these flows, a flow named twice having two?
+fn has_room(book: &Book, flows: &[u32]) -> bool {
+    let mut waiting: Vec<usize> = book.waiting.iter().map(|waiting| waiting.len()).collect();
+    for &flow in flows {
+        waiting[flow as usize] += 1;
+    }
+    waiting.iter().all(|&waiting| waiting <= MOST_WAITING)
 }
 
 pub const EXIT_HEADS: &str = "exit flow serial offer entry wait deflections flight";

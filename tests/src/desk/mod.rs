@@ -5,6 +5,7 @@ mod ends;
 pub mod expected;
 mod faults;
 pub mod program;
+mod sets;
 mod streams;
 mod texts;
 
@@ -27,6 +28,9 @@ pub fn calls(program: &Program, tally: &mut Tally, extent: Extent) {
     faults::streams(program, tally);
     ends::calls(program, tally);
     streams::full_queue(program, tally);
+    sets::behind_each_other(program, tally);
+    sets::full_queue(program, tally);
+    sets::full_queues(program, tally);
     streams::met_exactly(program, tally);
     rounds("desk", tally, extent, |tally, random, sx, sy| {
         texts::round(program, tally, random, sx, sy);

@@ -2,82 +2,145 @@
 
 use super::expected::{Entry, Options, printed};
 use super::program::{Program, same_lines, write};
+use super::sets::{Fault, LINE};
 use crate::compare::Tally;
 use crate::plan::Plan;
 use crate::random::{self, Random};
+
+/// A stream: its entries, their text, and what is told of its last line if that is faulty.
+pub struct Stream {
+    pub entries: Vec<Entry>,
+    pub text: String,
+    pub told: Option<String>,
+}
+
+impl Stream {
+    /// A line for each of these cycles and flows.
+    pub fn of(lines: Vec<(i64, Vec<u32>)>) -> Stream {
+        let mut text = String::new();
+        for (cycle, flows) in &lines {
+            text += &format!("{cycle} {}\n", joined(flows, " "));
+        }
+        let entry = |(cycle, flows)| Entry::Offer { cycle, flows };
+        Stream { entries: lines.into_iter().map(entry).collect(), text, told: None }
+    }
+
+    /// The stream with one more line, which is faulty.
+    pub fn with_fault(mut self, line: &str, told: &str) -> Stream {
+        self.told =
+            Some(format!("standard input:{}: {told}\n", self.text.matches('\n').count() + 1));
+        self.text += line;
+        self.entries.push(Entry::Fault);
+        self
+    }
+}
+
+fn joined(flows: &[u32], blank: &str) -> String {
+    flows.iter().map(u32::to_string).collect::<Vec<_>>().join(blank)
+}
 
 /// A short stream of a random plan, seldom a long one.
 pub fn round(program: &Program, tally: &mut Tally, random: &mut Random, sx: i64, sy: i64) {
     let most = random.pick(&[1, 2, 4, 9]);
     let flows = random.from(1, most) as usize;
     let plan = random::plan(random, sx, sy, flows);
-    let offers = if random.percent(3) { 5000 } else { random.index(200) };
-    let (entries, stream) = stream(random, &plan, offers);
-    let bounded = random.percent(30) || is_long(&plan, offers);
+    let lines = if random.percent(3) { 5000 } else { random.index(200) };
+    let stream = stream(random, &plan, lines);
+    let bounded = random.percent(30) || is_long(&plan, &stream);
     let cycles = bounded.then(|| random.from(0, 2000));
     let recent = random.percent(40).then(|| 1 + random.index(16));
     let options = Options { cycles, recent, summary: random.percent(20) };
-    compare(program, tally, &plan, &entries, &stream, options);
+    compare(program, tally, &plan, &stream, options);
 }
 
-/// May a run of so many offers take long to its end?
-fn is_long(plan: &Plan, offers: usize) -> bool {
-    plan.flows.iter().any(|flow| flow.period * offers as i64 > 20_000)
+/// May a run of this stream take long to its end?
+fn is_long(plan: &Plan, stream: &Stream) -> bool {
+    let packets = |entry: &Entry| match entry {
+        Entry::Offer { flows, .. } => flows.len() as i64,
+        Entry::Fault => 0,
+    };
+    let packets: i64 = stream.entries.iter().map(packets).sum();
+    plan.flows.iter().any(|flow| flow.period * packets > 20_000)
 }
 
-/// Entries, and their text with blanks, comments and either end of line.
-fn stream(random: &mut Random, plan: &Plan, offers: usize) -> (Vec<Entry>, Vec<u8>) {
-    let flows = plan.flows.len();
-    let mut entries = Vec::new();
-    let mut text = String::new();
+/// Lines of one flow or several, with blanks, comments and either end of line.
+fn stream(random: &mut Random, plan: &Plan, lines: usize) -> Stream {
+    let count = plan.flows.len();
+    let mut stream = Stream::of(Vec::new());
     let newline = random.pick(&["\n", "\r\n"]);
     let gap = random.pick(&[0, 1, 3, 40]);
+    let several = random.pick(&[0, 10, 50]);
     let mut cycle = 0;
-    for _ in 0..offers {
+    for _ in 0..lines {
         if random.percent(50) {
             cycle += random.from(0, gap);
         }
         if random.percent(2) {
             cycle += random.from(0, 300);
         }
-        let flow = random.index(flows) as u32;
-        entries.push(Entry::Offer { cycle, flow });
+        let flows = flows(random, count, several);
         if random.percent(3) {
-            text += random.pick(&["# nothing", "", " \t", "#", "  # 9 9"]);
-            text += newline;
+            stream.text += random.pick(&["# nothing", "", " \t", "#", "  # 9 9"]);
+            stream.text += newline;
         }
-        text += &match random.from(0, 19) {
-            0 => format!(" {cycle}\t {flow} "),
-            1 => format!("{cycle} {flow} # from head {flow}"),
-            2 => format!("00{cycle:012} 0{flow}"),
-            _ => format!("{cycle} {flow}"),
-        };
-        text += newline;
+        stream.text += &line(random, cycle, &flows);
+        stream.text += newline;
+        stream.entries.push(Entry::Offer { cycle, flows });
     }
     if random.percent(20) {
-        entries.push(Entry::Fault);
-        text += &match random.from(0, 4) {
-            0 => format!("{cycle} {flows}"),
-            1 => format!("{cycle}"),
-            2 => format!("{cycle} 0 0"),
-            3 => format!("{cycle} x"),
-            _ if cycle > 0 => format!("{} 0", cycle - 1),
-            _ => "0 4294967296".to_string(),
-        };
-        text += newline;
+        let (line, told) = faulty(random, count, cycle);
+        stream = stream.with_fault(&(line + newline), &told);
     }
-    if random.percent(30) && text.ends_with('\n') {
-        text.truncate(text.len() - newline.len());
+    if random.percent(30) && stream.text.ends_with('\n') {
+        stream.text.truncate(stream.text.len() - newline.len());
     }
-    (entries, text.into_bytes())
+    stream
 }
 
-fn compare(
+/// The flows of a line: one, or with this chance in a hundred several, some of them named again.
+fn flows(random: &mut Random, count: usize, several: i64) -> Vec<u32> {
+    let most = if random.percent(several) { random.pick(&[2, 2, 3, 5, 20]) } else { 1 };
+    let mut flows: Vec<u32> = (0..most).map(|_| random.index(count) as u32).collect();
+    if most > 1 && random.percent(30) {
+        flows[1] = flows[0];
+    }
+    flows
+}
+
+/// A line's text.
+fn line(random: &mut Random, cycle: i64, flows: &[u32]) -> String {
+    match random.from(0, 19) {
+        0 => format!(" {cycle}\t {} ", joined(flows, "\t ")),
+        1 => format!("{cycle} {} # from head {}", joined(flows, " "), flows[0]),
+        2 => format!("00{cycle:012} 0{}", joined(flows, " 0")),
+        _ => format!("{cycle} {}", joined(flows, " ")),
+    }
+}
+
+/// A faulty line behind one of this cycle, and what is told of it.
+fn faulty(random: &mut Random, count: usize, cycle: i64) -> (String, String) {
+    match random.from(0, 5) {
+        0 => (cycle.to_string(), format!("what is '{cycle}'? {LINE}")),
+        1 if cycle > 0 => {
+            let back = cycle - 1;
+            let told = format!("cycle {back} comes after cycle {cycle}; cycles never go back");
+            (format!("{back} {}", random.pick(&["0", "0 0"])), told)
+        }
+        _ => {
+            let flows = 1 + random.index(5);
+            let before = random.index(flows);
+            let fault = random.pick(&[Fault::NoNumber, Fault::TooLarge, Fault::Unknown]);
+            fault.line(cycle, count, before, flows)
+        }
+    }
+}
+
+/// Compares what is printed, and what is told of a fault that the run has come to.
+pub fn compare(
     program: &Program,
     tally: &mut Tally,
     plan: &Plan,
-    entries: &[Entry],
-    stream: &[u8],
+    stream: &Stream,
     options: Options,
 ) {
     let file = plan.file(b"");
@@ -94,39 +157,39 @@ fn compare(
     if options.summary {
         words.push("--summary");
     }
-    let got = program.call(tally, &words, stream);
-    let with = (&file, options, String::from_utf8_lossy(stream));
-    let expected = printed(plan, entries, options);
+    let got = program.call(tally, &words, stream.text.as_bytes());
+    let with = (&file, options, &stream.text);
+    let expected = printed(plan, &stream.entries, options);
     same_lines(tally, &with, &expected, &got.out);
     let fault = expected.ends_with("at a faulty line\n");
+    let told = stream.told.as_deref().filter(|_| fault).unwrap_or_default();
+    assert_eq!(got.err, told, "seed {}: {with:?}", tally.seed);
     assert_eq!(got.status, if fault { 2 } else { 0 }, "seed {}: {with:?}", tally.seed);
-    assert_eq!(got.err.lines().count(), fault as usize, "{}", got.err);
 }
 
 /// More packets than may wait: some are refused, and the run goes on. It ends before a packet would
 /// enter, in a cycle in which none leaves.
 pub fn full_queue(program: &Program, tally: &mut Tally) {
     let plan = crate::slips::met_exactly().0;
-    let mut entries = vec![Entry::Offer { cycle: 0, flow: 1 }; 65_540];
-    entries.push(Entry::Offer { cycle: 40, flow: 0 });
-    let text = "0 1\n".repeat(65_540) + "40 0\n";
+    let mut lines = vec![(0, vec![1]); 65_540];
+    lines.push((40, vec![0]));
     let options = Options { cycles: Some(2004), recent: Some(16), summary: false };
-    compare(program, tally, &plan, &entries, text.as_bytes(), options);
+    compare(program, tally, &plan, &Stream::of(lines), options);
 }
 
-/// The list that meets a bound exactly: nothing is spared.
+/// The list that meets a bound exactly: nothing is spared, whether a cycle's flows are offered one by
+/// one or at once.
 pub fn met_exactly(program: &Program, tally: &mut Tally) {
     let (plan, worst) = crate::slips::met_exactly();
-    let mut entries = Vec::new();
-    let mut text = String::new();
-    for (cycle, flows) in worst.offers.iter().enumerate() {
-        for &flow in flows {
-            entries.push(Entry::Offer { cycle: cycle as i64, flow });
-            text += &format!("{cycle} {flow}\n");
-        }
-    }
+    let cycles = || (0..).zip(&worst.offers).filter(|(_, flows)| !flows.is_empty());
+    let at_once = cycles().map(|(cycle, flows)| (cycle, flows.clone())).collect();
+    let one_by_one =
+        cycles().flat_map(|(cycle, flows)| flows.iter().map(move |&flow| (cycle, vec![flow])));
     let options = Options { cycles: None, recent: None, summary: true };
-    let table = printed(&plan, &entries, options);
-    assert!(table.lines().any(|row| row.split_whitespace().nth(9) == Some("0")), "{table}");
-    compare(program, tally, &plan, &entries, text.as_bytes(), options);
+    for lines in [one_by_one.collect(), at_once] {
+        let stream = Stream::of(lines);
+        let table = printed(&plan, &stream.entries, options);
+        assert!(table.lines().any(|row| row.split_whitespace().nth(9) == Some("0")), "{table}");
+        compare(program, tally, &plan, &stream, options);
+    }
 }
