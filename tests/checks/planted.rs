@@ -3,9 +3,9 @@
 
 mod faults {
     pub mod desk;
+    pub mod lines;
 }
 
-use faults::desk::FAULTS;
 use second::compare::Tally;
 use second::compare::parts::Extent;
 use second::desk::calls;
@@ -19,7 +19,7 @@ fn faults_are_noticed() {
     let hook = take_hook();
     set_hook(Box::new(|_| ()));
     let mut missed = Vec::new();
-    for (name, caller, reason) in FAULTS {
+    for (name, caller, reason) in faults::desk::FAULTS.iter().chain(faults::lines::FAULTS) {
         match difference(&desk, *caller) {
             Some(told) if told.contains(reason) => {}
             Some(told) => missed.push(format!("{name}: noticed, but by {told}")),

@@ -30,7 +30,7 @@ pub const FAULTS: &[Fault] = &[
         |desk, words, input| of_exits(desk.answer(words, input), |line| line[6] = 0),
         "columns deflections.",
     ),
-    ("exits of a cycle in another order", exits_exchanged, "columns flow serial"),
+    ("exits of a cycle in another order", exits_exchanged, "columns flow "),
     ("offers after the step of their cycle", late_offers, "columns exit entry wait."),
     (
         "left counted at the entry",
@@ -158,7 +158,9 @@ pub const FAULTS: &[Fault] = &[
     ),
     (
         "a period modulo 65,536",
-        |desk, words, input| with_text(desk, words, input, |text| text.replace("70000", "4464")),
+        |desk, words, input| {
+            with_file(desk, words, input, "mode.txt", |text| text.replace("70000", "4464"))
+        },
         "the period P is 70000",
     ),
     (
@@ -190,7 +192,7 @@ pub const FAULTS: &[Fault] = &[
     ("an old plan that stays", old_plan_stays, "left: [111, 108, 100]"),
 ];
 
-fn number(cell: &str) -> i64 {
+pub fn number(cell: &str) -> i64 {
     cell.parse().unwrap()
 }
 
@@ -227,7 +229,7 @@ fn exit(line: &str) -> Option<Vec<i64>> {
 }
 
 /// Changes the cells of each flow's row in the table; they end where they did.
-fn of_rows(output: Output, change: impl Fn(&mut Vec<String>)) -> Output {
+pub fn of_rows(output: Output, change: impl Fn(&mut Vec<String>)) -> Output {
     of_lines(output, |line| {
         let mut cells: Vec<String> = line.split_whitespace().map(String::from).collect();
         if ![12, 15].contains(&cells.len()) || cells[0].parse::<u32>().is_err() {
@@ -302,7 +304,7 @@ fn late_offers(desk: &Program, words: &[&str], input: &[u8]) -> Output {
 }
 
 /// Every wait beside the bound of a packet with none in front of it.
-fn lone_bounds(desk: &Program, words: &[&str], input: &[u8]) -> Output {
+pub fn lone_bounds(desk: &Program, words: &[&str], input: &[u8]) -> Output {
     let output = desk.answer(words, input);
     let file = words.get(1).and_then(|name| fs::read(desk.file(name)).ok()).unwrap_or_default();
     let Ok((plan, _)) = read(&file) else {
@@ -348,16 +350,17 @@ fn of_told(output: Output, change: impl Fn(&str) -> String) -> Output {
     }
 }
 
-/// A call that reads another text than it is given.
-fn with_text(
+/// A call that reads a file of its words as another text than it is.
+pub fn with_file(
     desk: &Program,
     words: &[&str],
     input: &[u8],
+    name: &str,
     change: impl Fn(&str) -> String,
 ) -> Output {
-    let path = desk.file("mode.txt");
+    let path = desk.file(name);
     let text = fs::read(&path).unwrap_or_default();
-    if let ("plan", Ok(old)) = (words[0], std::str::from_utf8(&text)) {
+    if let (true, Ok(old)) = (words.contains(&name), std::str::from_utf8(&text)) {
         write(&path, change(old).as_bytes());
         let output = desk.answer(words, input);
         write(&path, &text);
