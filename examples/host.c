@@ -1,6 +1,6 @@
 /* A host to start from: reads a plan file, prints each flow's bounds, offers one packet of each
- * flow and steps until all of them have left, keeping each flow's last flights. Last it prints
- * these, and writes the plan back from the state.
+ * flow at once, as a ping does, and steps until all of them have left, keeping each flow's last
+ * flights. Last it prints these, and writes the plan back from the state.
  *
  *     host PLAN
  *
@@ -68,6 +68,15 @@ static int print_bounds(size_t bytes, uint32_t flows, uint64_t *flights)
         *flights += flight;
     }
     return 0;
+}
+
+/* Offers one packet of each flow: all are accepted or none is. hrt_offer offers a single packet. */
+static int ping(uint32_t flows)
+{
+    static uint32_t list[HRT_MOST_FLOWS];
+    for (uint32_t flow = 0; flow < flows; flow++)
+        list[flow] = flow;
+    return is_refused("the ping", hrt_offer_set(state, HRT_MOST_STATE_WORDS, list, flows));
 }
 
 /* Keeps the flights of so many packets that a step delivered. */
@@ -149,10 +158,7 @@ int main(int argc, char **argv)
     uint64_t flights = 0;
     if (print_bounds(bytes, flows, &flights))
         return 1;
-    for (uint32_t flow = 0; flow < flows; flow++)
-        if (is_refused("an offer", hrt_offer(state, HRT_MOST_STATE_WORDS, flow)))
-            return 1;
-    if (run(flows, flights))
+    if (ping(flows) || run(flows, flights))
         return 1;
     print_recent(flows);
     return write_back(bytes, (size_t)notes);
