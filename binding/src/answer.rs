@@ -7,7 +7,8 @@ use std::fmt;
 #[derive(Clone, Copy, Debug, PartialEq, Eq)]
 pub struct Refusal {
     pub number: u32,
-    /// The flow of the refusals 6, 7 and 14; otherwise 0.
+    /// The flow of the refusals 6, 7 and 14; where a list of flows is offered, the position of 12 and
+    /// 13 in it, from 0; otherwise 0.
     pub place: u32,
 }
 

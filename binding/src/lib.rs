@@ -2,9 +2,9 @@
 //! in Rattle and linked from `target/staticlib/libhost.a`.
 //!
 //! A host reads a [`Plan`], asks the bounds of its flows, resets it into a [`State`], and then
-//! offers packets and steps; a [`Recent`] for each flow holds its last deliveries. Every answer is
-//! the archive's: [`Answer::Done`] with a value, or [`Answer::Refused`] with a number of README's
-//! table and a place. A refused call changes nothing.
+//! offers packets, one by one or several at once, and steps; a [`Recent`] for each flow holds its
+//! last deliveries. Every answer is the archive's: [`Answer::Done`] with a value, or
+//! [`Answer::Refused`] with a number of README's table and a place. A refused call changes nothing.
 //!
 //! ```
 //! # fn main() -> Result<(), hrt::Refusal> {
