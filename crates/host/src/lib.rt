@@ -1,4 +1,4 @@
-// The C interface, declared in include/hrt.h: thin, over the calls of plan, bounds, reset, writing, offer, step and feed.
+// The C interface, declared in include/hrt.h: thin, over the calls of plan, bounds, reset, writing, offer, offers, step and feed.
 use plan::Answer;
 use recent::Recent;
 ghost use mathlib.Core.Path.{_≡_};
@@ -9,6 +9,7 @@ ghost use Rattle.state.specs.Outcome.{outcome, lent};
 ghost use Rattle.state.specs.Reset.{resetOn};
 ghost use Rattle.state.specs.Writing.{writeOn};
 ghost use Rattle.cycle.specs.Offer.{offerOn};
+ghost use Rattle.cycle.specs.Set.{offerSetOn};
 ghost use Rattle.cycle.specs.Step.{stepOn};
 ghost use Rattle.feed.specs.Feed.{feedOn};
 
@@ -82,6 +83,14 @@ pub extern "C" fn hrt_offer(state: &mut [u32], flow: u32) -> u64
     ensures { λ r. ⌜ outcome r (now (state .exit)) ≡ inWords (offerOn (now (state .entry)) flow) ⌝ }
 {
     answer_word(offer::offer(state, flow))
+}
+
+// One packet for each entry of a list of flows, all or none.
+#[no_mangle]
+pub extern "C" fn hrt_offer_set(state: &mut [u32], flows: &[u32]) -> u64
+    ensures { λ r. ⌜ outcome r (now (state .exit)) ≡ inWords (offerSetOn (now (state .entry)) (now (flows .entry))) ⌝ }
+{
+    answer_word(offers::offer_set(state, flows))
 }
 
 // One cycle, and its exits.
