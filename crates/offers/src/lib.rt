@@ -59,10 +59,12 @@ pub fn offer_set(state: &mut [u32], flows: &[u32]) -> Answer
     if n == flows.len() {
         return Answer::Done(0);
     }
-    let other = offer::offer_number(state, flows[n]);
+    let f = flows[n];
+    let place = n as u32;
+    let other = offer::offer_number(state, f);
     take_back(state, flows, n);
     Answer::Refused {
         number: other,
-        place: n as u32,
+        place,
     }
 }

@@ -1,6 +1,7 @@
 //! What `run` prints, by the packet book's lines, U1's records and U4's sets of flows.
 
-use crate::book::{Book, Line, MOST_WAITING};
+use crate::book::{Book, Line};
+use crate::offers::MOST_WAITING;
 use crate::plan::Plan;
 use crate::recent::{Record, feed};
 use crate::window::{flight_bound, window};

@@ -21,6 +21,12 @@ returns-2 c =
     let most = c .before .before .before in
     set-accepted _ _ _ (rw (c .if2 .taken) at (most .add-entries .ensures .added))
 
+-- as many entries as were added
+cast-place : tie.Need-cast-place
+cast-place c =
+    let most = c .before .before .before .before in
+    omega (arith, added-few _ _ _ _ (most .add-entries .ensures .added))
+
 offer-number-requires : tie.Need-offer-number-requires
 offer-number-requires c κs =
     let most = c .before .before .before .before .before in
@@ -31,24 +37,16 @@ take-back-requires c κs =
     let most = c .before .before .before .before .before .before .before in
     (_, most .add-entries .ensures .added)
 
--- where the entries end, and what was found there
-abbrev most : tie.After-offer-number → tie.After-add-entries
-most c = c .before .before .before .before .before .before
-
-cast-t15 : tie.Need-cast-t15
-cast-t15 c =
-    let number = c .before .before .before .before in
-    omega (arith, added-few _ _ _ _ (most number .add-entries .ensures .added))
-
 returns-3 : tie.Need-returns-3
 returns-3 c =
     let back = c .before .before in
     let number = back .before .before in
-    let stop = most number .add-entries .ensures in
+    let most = number .before .before .before .before .before .before in
+    let stop = most .add-entries .ensures in
     rw (back .take-back .ensures _ (stop .added))
     (set-stops _ _ _ _ (stop .added) (omega arith) _ (number .offer-number .ensures ∙ added-number _ _ _ _ (stop .added) _ refl) (stop .next (omega arith)))
 
 pub offer-set-spec : {M : Type 1} → statement M
 offer-set-spec =
     tie.close (tie.spec (λ c κs. search needs) (λ c. search needs) returns add-entries-requires (λ c. search needs) returns-2
-    (λ c. search needs) (λ c. search needs) offer-number-requires take-back-requires cast-t15 (λ c. search needs) returns-3)
+    (λ c. search needs) (λ c. search needs) cast-place offer-number-requires take-back-requires (λ c. search needs) returns-3)

@@ -10,7 +10,7 @@ use Rattle.offers.proofs.wait_less.Tie as tie
 sub-put-waiting : tie.Need-sub-put-waiting
 sub-put-waiting c =
     let tally = c .before .before in
-    rw (tally .tally-at .ensures) (tally .before .before .before .pre .1)
+    rw (tally .tally-at .ensures) (omega (arith, tally .before .before .before .pre .1))
 
 returns : tie.Need-returns
 returns c =
