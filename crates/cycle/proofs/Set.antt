@@ -1,9 +1,8 @@
 -- The first entries of a set, none of them refused: the state with them added is sound, its waiting packets are as many more, and so
 -- few that a position fits its word. Rests on Offer and specs/Set.
 use mathlib.Core.List.{List}
-use mathlib.Core.Path.{_≡_, refl, sym, ap, _∙_}
+use mathlib.Core.Path.{_≡_, refl, sym, ap}
 use Prim.Native.Nat.{ℕ, zero, suc, _+_, _*_, _≤_, _<_}
-use native.Mathlib.Numerals.{add-one}
 use native.Mathlib.Omega.{arith}
 use lib.ListN.{length, getD}
 use Rattle.laws.specs.Bounded.{sumBelow}

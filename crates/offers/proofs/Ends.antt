@@ -1,18 +1,16 @@
 -- How a set ends: refused with the state's number, accepted with all entries added, or refused at the first entry that would be.
 -- Rests on Added and the laws of first refusals.
 use mathlib.Core.List.{List}
-use mathlib.Core.Path.{_≡_, refl, sym, ap, _∙_}
+use mathlib.Core.Path.{_≡_}
 use Prim.Native.Nat.{ℕ, _<_}
 use lib.ListN.{length}
-use Rattle.plan.specs.declared.Answer.{Answer}
 use Rattle.plan.specs.declared.Answer.the-variants.{Done, Refused}
 use Rattle.plan.proofs.Refusals.{first-all, first-at}
-use Rattle.state.specs.Words.{stateWords}
 use Rattle.state.specs.Read.{stateOf}
 use Rattle.state.specs.Forms.{stateNumber}
-use Rattle.state.specs.Outcome.{Outcome, outcome, refused, unless, unlessRefused, over}
-use Rattle.state.proofs.Over.{unless-passes, unless-refuses}
-use Rattle.cycle.specs.Set.{withFirst, entryNumber, offerSetOn}
+use Rattle.state.specs.Outcome.{outcome, refused, unless, unlessRefused}
+use Rattle.state.proofs.Over.{unless-refuses}
+use Rattle.cycle.specs.Set.{entryNumber, offerSetOn}
 use Rattle.offers.specs.Inner.{Added}
 
 pub set-no-state : (before flows : List ℕ) (n : ℕ) → n ≡ stateNumber before → (n ≡ 0 → ⊥) → refused n before ≡ offerSetOn before flows

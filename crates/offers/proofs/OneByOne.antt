@@ -21,7 +21,7 @@ use Rattle.state.proofs.Over.{unless-passes, unless-refuses, unless-done, unles
 use Rattle.cycle.specs.Offer.{offerState, offerOn}
 use Rattle.cycle.specs.Set.{withFirst, entryNumber, offerSetOn}
 use Rattle.offers.specs.Inner.{Added}
-use Rattle.offers.specs.OneByOne.{inTurn, EachAccepted, OneByOne, EverySet, StopsAt, EveryRefusedSet}
+use Rattle.offers.specs.OneByOne.{inTurn, EachAccepted, EverySet, EveryRefusedSet}
 use Rattle.offers.proofs.Added.{added-none, added-forms, added-number, added-more}
 use Rattle.offers.proofs.Ends.{set-accepted}
 

@@ -8,14 +8,14 @@ use lib.Dec.{eqb}
 use lib.ListN.{length, getD, take}
 use lib.Seq.{take-suc}
 use Rattle.laws.specs.Bounded.{tabulate}
-use Rattle.laws.specs.Count.{count, one}
+use Rattle.laws.specs.Count.{count}
 use Rattle.laws.specs.Turns.{turns}
 use Rattle.laws.proofs.Count.{count-append}
 use Rattle.laws.proofs.Grid.{tabulate-same}
 use Rattle.laws.proofs.Stands.{stands-first}
 use Rattle.laws.proofs.Turns.{turns-along}
 use Rattle.flow.specs.Plan.{Plan}
-use Rattle.book.specs.Line.{Line, waiting}
+use Rattle.book.specs.Line.{waiting}
 use Rattle.book.specs.Book.{Book, totalOf, waitingOf, enteredOf, offered, offeredLine, offeredFirst}
 use Rattle.book.proofs.Queue.{entered-offer, total-split}
 use Rattle.state.specs.declared.Tally.{Tally}

@@ -16,7 +16,6 @@ use Rattle.book.specs.Book.{Book, waitingOf, offeredFirst}
 use Rattle.state.specs.State.{State, tallyAt}
 use Rattle.cycle.specs.Offer.{offerState}
 use Rattle.cycle.specs.Set.{withFirst, waitingAfter, entryNumber}
-use Rattle.cycle.proofs.Set.{first-plan}
 use Rattle.run.specs.View.{bookState}
 use Rattle.run.proofs.Offer.{offer-number, offer-follows}
 

@@ -1,6 +1,6 @@
 -- `add_entries`: entry by entry, up to the first that would be refused. Rests on Added.
 use mathlib.Core.Path.{_≡_, refl, sym, _∙_}
-use Prim.Native.Nat.{ℕ, _≤_, _-_}
+use Prim.Native.Nat.{_≤_, _-_}
 use native.Mathlib.Omega.{arith}
 use lib.ListN.{length}
 use Rattle.state.specs.Read.{stateOf}

@@ -1,10 +1,8 @@
 -- `offer_set`: a refusal by the state's number, all entries added, or those that were taken back. Rests on Added and Ends.
-use mathlib.Core.Path.{_≡_, refl, sym, _∙_}
+use mathlib.Core.Path.{refl, sym, _∙_}
 use borrow.Author.Needs.{needs}
 use native.Mathlib.Omega.{arith}
-use lib.ListN.{length}
 use Rattle.state.proofs.Forms.{state-facts}
-use Rattle.offers.specs.Inner.{Added, AddedMost}
 use Rattle.offers.proofs.Added.{added-forms, added-few, added-number}
 use Rattle.offers.proofs.Ends.{set-no-state, set-accepted, set-stops}
 use Rattle.offers.proofs.offer_set.Statement.{statement}
