@@ -1,4 +1,4 @@
-// 01's cases, as a script on standard input: each line is written again, with its answer behind it.
+// 01's cases and U4's limits, as a script on standard input: each line is written again, with its answer behind it.
 mod line;
 
 use libc::STDIN_FILENO;
@@ -7,7 +7,7 @@ use plan::Answer;
 ghost use Prim.Native.Nat.{_≤_, _<_};
 ghost use lib.ListN.{length};
 
-// The words, as their letters' bytes: #, read, window, flight, reset, offer, step, write, word, byte.
+// The words, as their letters' bytes: #, read, window, flight, reset, offer, set, step, write, word, byte.
 const NOTE: u64 = 0x23;
 
 const READ: u64 = 0x72656164;
@@ -19,6 +19,8 @@ const FLIGHT: u64 = 0x666c69676874;
 const RESET: u64 = 0x7265736574;
 
 const OFFER: u64 = 0x6f66666572;
+
+const SET: u64 = 0x736574;
 
 const STEP: u64 = 0x73746570;
 
@@ -80,6 +82,13 @@ fn at_most(n: u64, most: usize) -> usize
     k
 }
 
+// A set of so many entries, at most four, all of one flow.
+fn offer_set(state: &mut [u32], entries: usize, flow: u32) -> Answer {
+    let list = [flow, flow, flow, flow];
+    let n = at_most(entries as u64, 4);
+    offers::offer_set(state, &list[..n])
+}
+
 // A step, with nines in the delivery memory: its first five words afterwards stand before the answer.
 fn step(state: &mut [u32], room: u32) -> Answer {
     let mut delivery = [9u32; 80];
@@ -121,12 +130,14 @@ fn call(word: u64, file: &[u8], state: &mut [u32], last: u32) -> Answer {
     match word {
         RESET => reset::reset(file, state),
         OFFER => offer::offer(state, last),
+        SET => offer_set(state, file.len(), last),
         STEP => step(state, last),
         _ => ask(word, file, state, last),
     }
 }
 
-// The first bytes of the plan file and the first words of the state are lent, as many as the line says.
+// The first bytes of the plan file and the first words of the state are lent, as many as the line says. A set has as many entries as
+// there would be bytes.
 fn lend(word: u64, file: &[u8], bytes: u64, state: &mut [u32], words: u64, last: u32) {
     let n = at_most(bytes, file.len());
     let k = at_most(words, state.len());
@@ -174,6 +185,7 @@ fn fitting(word: u64, a: u64, b: u64, c: u64) -> bool {
     match word {
         BYTE => fits(a, 65536, b, 255, line::NONE, c),
         WORD => fits(a, 155, b, 4294967295, line::NONE, c),
+        SET => fits(a, 4, b, 156, c, 4294967295),
         STEP => fits(a, 0, b, 156, c, 80),
         WRITE => fits(a, 65537, b, 156, c, 24),
         _ => fits(a, 65537, b, 156, c, 4294967295),
