@@ -46,6 +46,7 @@ pub fn engine(host: &impl Engine, seed: u64, extent: Extent) -> Tally {
         let plan = plan(&mut random, size, size, flows);
         lists::saturated(host, &mut tally, &mut random, plan, 60);
     }
+    sets::past_all_queues(host, &mut tally, &mut random);
     engine::all_came_up(&tally);
     tally
 }

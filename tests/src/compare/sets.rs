@@ -165,6 +165,15 @@ fn long_lists(host: &impl Engine, tally: &mut Tally, random: &mut Random, state:
     assert!(!call(host, tally, random, state, &alone));
 }
 
+/// One entry more than the queues of all flows of the largest plan take: it is refused, and ends.
+pub fn past_all_queues(host: &impl Engine, tally: &mut Tally, random: &mut Random) {
+    let plan = random::plan(random, 16, 16, 256);
+    let state = &mut Twin::words(random, &words(&Book::new(plan)), 0);
+    let mut list = (0..256).collect::<Vec<u32>>().repeat(MOST_WAITING);
+    list.push(255);
+    assert!(!offer_set(host, tally, state, &mut lent(random, &list, 256)));
+}
+
 /// An accepted set leaves what its single offers leave, one after the other.
 fn all_and_one_by_one(
     host: &impl Engine,
