@@ -11,7 +11,7 @@ use Rattle.flow.specs.Limits.{offerNumber}
 use Rattle.plan.specs.declared.Answer.{Answer}
 use Rattle.plan.specs.declared.Answer.the-variants.{Done, Refused}
 use Rattle.plan.specs.Refusals.{firstRefused}
-use Rattle.plan.proofs.Refusals.{FirstAt, first-done, first-refused}
+use Rattle.plan.proofs.Refusals.{first-done, first-refused}
 use Rattle.state.specs.State.{tallyAt}
 use Rattle.state.specs.Words.{stateWords}
 use Rattle.state.specs.Read.{stateOf}
@@ -71,10 +71,14 @@ module _ (words flows : List ℕ) where
       let passed = unless-refused-done first words all 0 (sym (ap (λ (o : Outcome Answer (List ℕ)). o .answer) (state .1)) ∙ e) in
       (state .0, first-done (number words flows) (length flows) (passed .0) (passed .1))
 
-  set-refused : stateNumber words ≡ 0 → (n place : ℕ) → (offerSetOn words flows) .answer ≡ Refused n place
-      → FirstAt (number words flows) (length flows) n place
-  unfolding offerSetOn unless
-  set-refused formed n place e = first-refused _ _ _ _ (unless-refused-by first words all 0 n place refl (rw formed at e))
+  module _ (formed : stateNumber words ≡ 0) (n place : ℕ) (e : (offerSetOn words flows) .answer ≡ Refused n place) where
+    first-is : first ≡ Refused n place
+    unfolding offerSetOn unless
+    first-is = unless-refused-by first words all 0 n place refl (rw formed at e)
+
+    set-unchanged : (offerSetOn words flows) .memory ≡ words
+    unfolding offerSetOn unless unlessRefused
+    set-unchanged = rw (formed, first-is)
 
 pub every-set : EverySet
 every-set words flows e =
@@ -87,11 +91,12 @@ every-set words flows e =
 
 pub every-refused-set : EveryRefusedSet
 every-refused-set words flows n place formed e =
-    let h = set-refused words flows formed n place e in
+    let h = first-refused (number words flows) (length flows) n place (first-is words flows formed n place e) in
     let now = turns-add words flows formed place (omega (arith, h .below)) (h .earlier) place (omega arith) in
     let there = offer-refused _ (added-forms _ _ _ _ now) (getD flows place 0) n (added-number _ _ _ _ now _ refl ∙ h .here) in
     record {
       inside = h .below;
       each = each-accepted words flows formed place (omega (arith, h .below)) (h .earlier);
       there = ap (λ (o : Outcome Answer (List ℕ)). o .answer) (there (h .some));
+      unchanged = set-unchanged words flows formed n place e;
     }

@@ -25,12 +25,13 @@ pub record OneByOne (words flows : List ℕ) : Type 0 where
 abbrev pub EverySet : Type 0
 EverySet = (words flows : List ℕ) → (offerSetOn words flows) .answer ≡ Done 0 → OneByOne words flows
 
--- a set that is refused on words that form a state: the single offers before the place are accepted, and the one there is refused
--- with that number
+-- a set that is refused on words that form a state: the single offers before the place are accepted, the one there is refused with
+-- that number, and the set changes nothing
 pub record StopsAt (words flows : List ℕ) (number place : ℕ) : Type 0 where
   pub inside : place < length flows
   pub each : EachAccepted words flows place
   pub there : (offerOn (inTurn words flows place) (getD flows place 0)) .answer ≡ Refused number 0
+  pub unchanged : (offerSetOn words flows) .memory ≡ words
 
 abbrev pub EveryRefusedSet : Type 0
 EveryRefusedSet =
