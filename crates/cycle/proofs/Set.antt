@@ -69,7 +69,9 @@ module _ (s : State) (flows : List ℕ) where
         omega (arith, more, waiting-first n earlier)
 
     waiting-most : (t : State) → Sound t → t .plan ≡ s .plan → waitingIn t ≤ mostWaiting * length (s .plan .flows)
-    waiting-most t now e = sum-most (λ f. (tallyAt t f) .waiting) mostWaiting (length (s .plan .flows)) (λ f l. tally-facts _ _ _ (now .fits .tally-ok f (rw e l)) .waiting-most)
+    waiting-most t now e =
+        sum-most (λ f. (tallyAt t f) .waiting) mostWaiting (length (s .plan .flows))
+        (λ f l. tally-facts _ _ _ (now .fits .tally-ok f (rw e l)) .waiting-most)
 
     -- a list longer than 65,535 × 256 can't be accepted
     pub first-few : (n : ℕ) → Passed n → n ≤ mostWaiting * mostFlows

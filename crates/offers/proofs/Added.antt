@@ -2,7 +2,7 @@
 -- laws of a set's states.
 use mathlib.Core.List.{List}
 use mathlib.Core.Path.{_≡_, sym, ap, _∙_}
-use Prim.Native.Nat.{ℕ, _+_, _-_, _*_, _≤_, _<_}
+use Prim.Native.Nat.{ℕ, _+_, _*_, _≤_, _<_}
 use native.Mathlib.Decide.{ℕ-discrete}
 use native.Mathlib.Omega.{arith}
 use lib.ListN.{length, getD}
@@ -17,11 +17,11 @@ use Rattle.state.specs.Facts.{StateFlow}
 use Rattle.state.specs.Outcome.{over}
 use Rattle.state.proofs.View.{counted}
 use Rattle.state.proofs.Forms.{state-facts}
-use Rattle.cycle.specs.Offer.{withWaiting, offerState}
+use Rattle.cycle.specs.Offer.{offerState}
 use Rattle.cycle.specs.Set.{withFirst, entryNumber}
 use Rattle.cycle.proofs.Offer.{Sound, words-sound, words-again, over-forms, over-read, over-again, offer-back, tally-here}
 use Rattle.cycle.proofs.Set.{first-none, first-more, first-plan, first-sound, first-few, entry-known}
-use Rattle.offers.specs.Inner.{Added}
+use Rattle.offers.specs.Inner.{lessState, Added}
 
 -- nothing is added yet, and what was taken back is as before
 pub added-none : (before flows : List ℕ) → stateNumber before ≡ 0 → Added before flows 0 before
@@ -112,8 +112,7 @@ module _ (before flows : List ℕ) (n : ℕ) (memory : List ℕ) (a : Added befo
   unfolding offerState
   last-waits = rw (is-offer, tally-here last f _ tallied) (omega arith)
 
-  pub added-less : (after : List ℕ) → after ≡ over (stateWords (withWaiting (stateOf memory) f ((tallyAt (stateOf memory) f) .waiting - 1))) memory
-      → Added before flows n after
+  pub added-less : (after : List ℕ) → after ≡ over (stateWords (lessState (stateOf memory) f)) memory → Added before flows n after
   added-less after e =
       record {
         formed = a .formed;

@@ -1,14 +1,20 @@
--- A set under way, as inner functions promise it: its first entries are added to the state that the memory had before.
+-- A set under way, as inner functions promise it: its first entries are added to the state that the memory had before, or taken back.
 use mathlib.Core.List.{List}
 use mathlib.Core.Logic.{_≢_}
 use mathlib.Core.Path.{_≡_}
-use Prim.Native.Nat.{ℕ, _≤_, _<_}
+use Prim.Native.Nat.{ℕ, _-_, _≤_, _<_}
 use lib.ListN.{length}
+use Rattle.state.specs.State.{State, tallyAt}
 use Rattle.state.specs.Words.{stateWords}
 use Rattle.state.specs.Read.{stateOf}
 use Rattle.state.specs.Forms.{stateNumber}
 use Rattle.state.specs.Outcome.{over}
+use Rattle.cycle.specs.Offer.{withWaiting}
 use Rattle.cycle.specs.Set.{withFirst, entryNumber}
+
+-- one less waiting, and nothing else
+abbrev pub lessState : State → (flow : ℕ) → State
+lessState s flow = withWaiting s flow ((tallyAt s flow) .waiting - 1)
 
 -- the memory has the first n entries added, none of which is refused
 pub record Added (before flows : List ℕ) (n : ℕ) (memory : List ℕ) : Type 0 where

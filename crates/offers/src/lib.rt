@@ -1,16 +1,15 @@
 // An offer that names a set of flows: all of them or none. Rests on offer and valid.
 use plan::Answer;
 ghost use mathlib.Core.Path.{_≡_};
-ghost use Prim.Native.Nat.{_-_, _≤_};
+ghost use Prim.Native.Nat.{_≤_};
 ghost use Rattle.state.specs.Words.{stateWords};
 ghost use Rattle.state.specs.Read.{stateOf};
 ghost use Rattle.state.specs.State.{tallyAt};
 ghost use Rattle.state.specs.Facts.{StateFlow};
 ghost use Rattle.state.specs.Forms.{stateNumber};
 ghost use Rattle.state.specs.Outcome.{outcome, over};
-ghost use Rattle.cycle.specs.Offer.{withWaiting};
 ghost use Rattle.cycle.specs.Set.{offerSetOn};
-ghost use Rattle.offers.specs.Inner.{AddedMost, WasAdded, IsBack};
+ghost use Rattle.offers.specs.Inner.{lessState, AddedMost, WasAdded, IsBack};
 
 // Adds the entries in their order, up to the first that would be refused; how many it added.
 fn add_entries(state: &mut [u32], flows: &[u32]) -> usize
@@ -31,7 +30,7 @@ fn add_entries(state: &mut [u32], flows: &[u32]) -> usize
 fn wait_less(state: &mut [u32], f: u32)
     requires { ⌜ StateFlow (now state) f ⌝ }
     requires { ⌜ 1 ≤ (tallyAt (stateOf (now state)) f) .waiting ⌝ }
-    ensures { λ _. ⌜ now (state .exit) ≡ over (stateWords (withWaiting (stateOf (now (state .entry))) f ((tallyAt (stateOf (now (state .entry))) f) .waiting - 1))) (now (state .entry)) ⌝ }
+    ensures { λ _. ⌜ now (state .exit) ≡ over (stateWords (lessState (stateOf (now (state .entry))) f)) (now (state .entry)) ⌝ }
 {
     let t = cycle::tally_at(state, f);
     offer::put_waiting(state, f, t.waiting - 1);

@@ -84,7 +84,8 @@ feed-passes : (p : Plan) (b : Book) (c : Call) (v : ℕ) → (feed p b c) .reply
 unfolding feed
 feed-passes p b c v e = by (refusal p b c) refl e
   where
-    by : (a : Answer) → refusal p b c ≡ a → (judged p b c a) .reply ≡ Done v → (w : ℕ) × (refusal p b c ≡ Done w) × (judged p b c (refusal p b c) ≡ accepted p b c)
+    by : (a : Answer) → refusal p b c ≡ a → (judged p b c a) .reply ≡ Done v
+        → (w : ℕ) × (refusal p b c ≡ Done w) × (judged p b c (refusal p b c) ≡ accepted p b c)
     by (Done w) q d = (w, q, ap (judged p b c) q)
     by (Refused n place) q d = absurd (refused-done n place v d)
 

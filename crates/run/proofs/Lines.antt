@@ -15,7 +15,7 @@ use Rattle.laws.proofs.Grid.{tabulate-same}
 use Rattle.laws.proofs.Stands.{stands-first}
 use Rattle.laws.proofs.Turns.{turns-along}
 use Rattle.flow.specs.Plan.{Plan}
-use Rattle.book.specs.Line.{waiting}
+use Rattle.book.specs.Line.{Line, waiting}
 use Rattle.book.specs.Book.{Book, totalOf, waitingOf, enteredOf, offered, offeredLine, offeredFirst}
 use Rattle.book.proofs.Queue.{entered-offer, total-split}
 use Rattle.state.specs.declared.Tally.{Tally}
@@ -38,7 +38,10 @@ module _ (p : Plan) (b : Book) (tail : List ℕ) (f : ℕ) (known : f < length (
   tally-is = tally-at-read (bookState p b) w (stands-first 0 (stateWords (bookState p b)) tail) f known ∙ tally-at p b f known
 
   -- the line of a packet behind q others
-  behind-is : (q : ℕ) → lineBehind w f q ≡ record { flow = f; serial = enteredOf b f + q + 1; offer = b .clock; q = q; D = 0; stage = waiting }
+  abbrev behind : (q : ℕ) → Line
+  behind q = record { flow = f; serial = enteredOf b f + q + 1; offer = b .clock; q = q; D = 0; stage = waiting }
+
+  behind-is : (q : ℕ) → lineBehind w f q ≡ behind q
   unfolding bookState
   behind-is q =
       let entered = ap (λ (t : Tally). t .entered) tally-is in
@@ -51,7 +54,7 @@ module _ (p : Plan) (b : Book) (tail : List ℕ) (f : ℕ) (known : f < length (
   line-behind c more clock entered waits =
       let q : waitingOf c f ≡ (tallyIn w (flowPlace f)) .waiting + more = waits ∙ ap (λ (t : Tally). t .waiting + more) (sym tally-is) in
       let serial : totalOf c f + 1 ≡ enteredOf b f + waitingOf c f + 1 = omega (arith, total-split c f, entered) in
-      let line : offeredLine c f ≡ record { flow = f; serial = enteredOf b f + waitingOf c f + 1; offer = b .clock; q = waitingOf c f; D = 0; stage = waiting } =
+      let line : offeredLine c f ≡ behind (waitingOf c f) =
       λ j. record { flow = f; serial = serial j; offer = clock j; q = waitingOf c f; D = 0; stage = waiting } in
       line ∙ sym (behind-is (waitingOf c f)) ∙ ap (lineBehind w f) q
 

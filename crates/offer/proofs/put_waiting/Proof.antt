@@ -24,8 +24,9 @@ returns c =
     let put = c .before .before in
     let tally = put .before .before .before .before in
     let start = tally .before .before .before in
+    let a = start .args in
     put .put-tally .ensures
-    ∙ waiting-over _ (start .pre .facts) (start .args .f) (start .pre .below) (start .args .waiting) _ _ (put .before .flow-place .ensures) (rw (tally .tally-at .ensures))
+    ∙ waiting-over _ (start .pre .facts) (a .f) (start .pre .below) (a .waiting) _ _ (put .before .flow-place .ensures) (rw (tally .tally-at .ensures))
 
 pub put-waiting-spec : {M : Type 1} → statement M
 put-waiting-spec = tie.close (tie.spec tally-at-requires flow-place-requires put-tally-requires (λ c. search needs) returns)

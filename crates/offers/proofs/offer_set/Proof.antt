@@ -32,7 +32,8 @@ offer-number-requires c κs =
 
 take-back-requires : tie.Need-take-back-requires
 take-back-requires c κs =
-    let most = c .before .before .before .before .before .before .before in
+    let number = c .before in
+    let most = number .before .before .before .before .before .before in
     (_, most .add-entries .ensures .added)
 
 returns-3 : tie.Need-returns-3
