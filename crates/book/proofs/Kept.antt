@@ -22,7 +22,7 @@ use Rattle.router.specs.Delivery.{Delivery}
 use Rattle.book.specs.Line.{Line, isWaiting}
 use Rattle.book.specs.Book.{Book, ofFlow, waitsFor, waitingOf, enteredOf, start, offered, offeredFirst, offeredLine}
 use Rattle.book.specs.Cycle.{enters, move, stepped}
-use Rattle.flow.specs.Limits.{roomFor, lastClock, mostWaiting, offerNumber, stepNumber}
+use Rattle.flow.specs.Limits.{roomFor, lastClock, mostWaiting, stepNumber}
 use Rattle.flow.proofs.Limits.{offer-passes}
 use Rattle.plan.specs.declared.Answer.{Answer}
 use Rattle.plan.specs.declared.Answer.the-variants.{Done, Refused}
@@ -30,7 +30,7 @@ use Rattle.plan.specs.Set.{setNumber}
 use Rattle.plan.proofs.Refusals.{answer-done, first-done}
 use Rattle.book.specs.Feed.{Call, offer, offerSet, step, refusal, Fed, accepted, judged, feed, runFrom, run}
 use Rattle.book.proofs.Moves.{turn, waited}
-use Rattle.book.proofs.Queue.{entered-step, entered-offer}
+use Rattle.book.proofs.Queue.{set-keeps, entered-step, entered-offer}
 use Rattle.book.proofs.Spans.{Lawful, lawful-start, lawful-offer, lawful-step}
 use Rattle.book.proofs.Held.{Apart}
 use Rattle.book.proofs.Places.{apart-step, apart-offer}
@@ -49,11 +49,7 @@ pub record Kept (p : Plan) (b : Book) : Type 0 where
 abbrev pub Room : Plan → Book → (f : ℕ) → Type 0
 Room p b f = (f < length (p .flows)) × (waitingOf b f < mostWaiting)
 
--- an offer that the table doesn't refuse
-room : (p : Plan) (b : Book) (f : ℕ) → offerNumber p f (waitingOf b f) ≡ 0 → Room p b f
-room p b f e = offer-passes p f (waitingOf b f) e
-
--- a step that it doesn't refuse comes before the last clock
+-- a step that the table doesn't refuse comes before the last clock
 early : (p : Plan) (length clock : ℕ) → stepNumber p length clock ≡ 0 → clock ≢ lastClock
 unfolding stepNumber
 early p length clock e =
@@ -72,8 +68,9 @@ feed-cases p b Q refuses offers sets steps c = by c (refusal p b c) refl
   where
     by : (c : Call) (a : Answer) → refusal p b c ≡ a → Q (judged p b c a)
     by c (Refused n place) e = refuses n place
-    by (offer f) (Done v) e = offers f (room p b f (answer-done _ _ _ e))
-    by (offerSet flows) (Done v) e = sets flows (λ k l. room p (offeredFirst b flows k) (getD flows k 0) (first-done _ _ _ e k l))
+    by (offer f) (Done v) e = offers f (offer-passes p f (waitingOf b f) (answer-done _ _ _ e))
+    by (offerSet flows) (Done v) e =
+        sets flows (λ k l. let f = getD flows k 0 in offer-passes p f (waitingOf (offeredFirst b flows k) f) (first-done _ _ _ e k l))
     by (step words) (Done v) e = steps words (early p words (b .clock) (answer-done _ _ _ e))
 
 module _ (p : Plan) where
@@ -132,7 +129,7 @@ module _ (p : Plan) where
     kept-set : (flows : List ℕ) → ((i : ℕ) → i < length flows → Room p (offeredFirst b flows i) (getD flows i 0))
         → Kept p (offeredFirst b flows (length flows))
     kept-set flows rooms =
-        turns-along (length flows) _ b (Kept p) (λ i l now. kept-offer _ now (getD flows i 0) (rooms i l)) (length flows) (omega arith) k
+        turns-along (length flows) _ b (Kept p) (λ i l now. kept-offer _ now (getD flows i 0) (rooms i l)) k
 
     pub kept-feed : (c : Call) → Kept p (feed p b c .book)
     kept-feed c =
@@ -144,8 +141,7 @@ module _ (p : Plan) where
 
     set-leaves : (r : Delivery → Bool) (flows : List ℕ) (n : ℕ) → count (gone r) (offeredFirst b flows n .lines) ≡ count (gone r) (b .lines)
     set-leaves r flows n =
-        turns-along n (λ i now. offered now (getD flows i 0)) b (λ (now : Book). count (gone r) (now .lines) ≡ count (gone r) (b .lines))
-        (λ i l e. offered-leaves r (offeredFirst b flows i) (getD flows i 0) ∙ e) n (omega arith) refl
+        set-keeps b flows (λ (now : Book). count (gone r) (now .lines) ≡ count (gone r) (b .lines)) (λ now f e. offered-leaves r now f ∙ e) n refl
 
     -- what a call delivers is what it lets leave
     feed-delivered : (r : Delivery → Bool) (c : Call) → count (gone r) (feed p b c .book .lines) ≡ count (gone r) (b .lines) + count r (feed p b c .delivered)

@@ -1,7 +1,7 @@
 -- A flow's queue: its serials are 1..n in the order of its offers, the entered ones first; so the waiting line of lowest
 -- serial has the serial entered + 1, and one line enters where its flow does. Rests on Moves.
 use mathlib.Core.Bool.{Bool, true, false, not, _&&_, and-false}
-use mathlib.Core.List.{[], _∷_, _++_, map, map-append, map-map, append-nil, List·Memᴰ as Mem}
+use mathlib.Core.List.{List, [], _∷_, _++_, map, map-append, map-map, append-nil, List·Memᴰ as Mem}
 use mathlib.Core.Logic.{_⊎_, inl, inr, _≢_}
 use mathlib.Core.Path.{_≡_, refl, sym, ap, _∙_}
 use Prim.Native.Nat.{ℕ, zero, suc, _+_, _≤_, _<_}
@@ -10,17 +10,19 @@ use native.Mathlib.Nat.{add-zero}
 use native.Mathlib.Omega.{arith}
 use borrow.Author.Tests.{lt-ltb, le-ltb, ltb-true, ltb-false, eq-eqb, ne-eqb, eqb-true, eqb-false}
 use lib.Dec.{ltb, eqb}
+use lib.ListN.{getD}
 use Rattle.laws.specs.Bounded.{tabulate}
 use Rattle.laws.specs.Count.{one, count, any, keep}
 use Rattle.laws.proofs.Cases.{test, and-true}
 use Rattle.laws.proofs.Bounded.{tabulate-more}
+use Rattle.laws.proofs.Turns.{turns-along}
 use Rattle.laws.proofs.Count.{mem-map, mem-snoc, any-true, any-mem, mem-count, count-find}
 use Rattle.laws.proofs.Count.{count-append, count-map, count-same, count-sum, count-none, count-keep}
 use Rattle.laws.proofs.Keep.{keep-append, keep-map}
 use Rattle.flow.specs.Plan.{Plan}
 use Rattle.router.proofs.Entrant.{entering-ready}
 use Rattle.book.specs.Line.{Line, isWaiting}
-use Rattle.book.specs.Book.{Book, ofFlow, waitsFor, enteredFor, totalOf, waitingOf, enteredOf, offered, offeredLine}
+use Rattle.book.specs.Book.{Book, ofFlow, waitsFor, enteredFor, totalOf, waitingOf, enteredOf, offered, offeredLine, offeredFirst}
 use Rattle.book.specs.Cycle.{view, enters, lowest, move, stepped}
 use Rattle.book.proofs.Moves.{goes, Turn, keeps, stays, comes, turn, goes-enters}
 
@@ -51,6 +53,11 @@ once-in (suc n) k l m =
     ]
 
 -- an offer adds a waiting line
+-- what every offer keeps, a set of offers keeps
+pub set-keeps : (b : Book) (flows : List ℕ) (Ok : Book → Type 0) → ((now : Book) (f : ℕ) → Ok now → Ok (offered now f))
+    → (n : ℕ) → Ok b → Ok (offeredFirst b flows n)
+set-keeps b flows Ok each n ok = turns-along n _ b Ok (λ i l now. each (offeredFirst b flows i) (getD flows i 0) now) ok
+
 pub entered-offer : (b : Book) (f g : ℕ) → enteredOf (offered b f) g ≡ enteredOf b g
 entered-offer b f g = count-append (enteredFor g) (b .lines) (offeredLine b f ∷ []) ∙ rw (and-false (eqb f g)) (omega arith)
 

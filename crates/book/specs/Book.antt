@@ -61,6 +61,7 @@ abbrev pub offered : Book → ℕ → Book
 offered b f =
     record { clock = b .clock; buckets = b .buckets; lines = b .lines ++ (offeredLine b f ∷ []) }
 
--- a set adds a waiting line for each of its entries, in their order; here for the first n
+-- a set adds a waiting line for each of its entries, in their order, here for the first n: so q counts the earlier entries of the same
+-- flow too
 abbrev pub offeredFirst : Book → (flows : List ℕ) → (n : ℕ) → Book
 offeredFirst b flows n = turns n (λ k now. offered now (getD flows k 0)) b

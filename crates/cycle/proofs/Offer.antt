@@ -1,17 +1,16 @@
--- A state with so many packets of a flow waiting: its numbers still fit, and the old number gives it back. Rests on specs/Offer and
--- the laws of a state's words.
+-- A state with so many packets of a flow waiting: its numbers still fit, and its words are read back. Rests on specs/Offer and the
+-- laws of a state's words.
 use mathlib.Core.Bool.{true, _&&_}
 use mathlib.Core.List.{List, _++_}
 use mathlib.Core.Logic.{_≢_}
 use mathlib.Core.Path.{_≡_, refl, sym, ap, _∙_}
-use Prim.Native.Nat.{ℕ, _+_, _-_, _≤_, _<_}
+use Prim.Native.Nat.{ℕ, _≤_, _<_}
 use native.Mathlib.Decide.{ℕ-discrete}
-use native.Mathlib.Nat.{add-sub-cancel}
 use native.Mathlib.Omega.{arith}
 use borrow.Author.Tests.{le-leb}
 use lib.Dec.{leb}
-use lib.ListN.{length, drop, set, length-set}
-use lib.Seq.{getD-set-same, getD-set-other, set-set, set-getD, drop-at}
+use lib.ListN.{length, drop, length-set}
+use lib.Seq.{getD-set-same, getD-set-other, drop-at}
 use Rattle.laws.proofs.Cases.{and-true}
 use Rattle.laws.proofs.Stands.{stands-first}
 use Rattle.flow.specs.declared.Flow.{Flow}
@@ -118,18 +117,3 @@ unfolding offerState
 offer-sound s f sound e =
     let passes = offer-passes (s .plan) f _ e in
     waiting-sound s f _ (omega (arith, sound .sized .tallies-all, passes .0)) sound (omega (arith, passes .1))
-
--- one waiting less gives the state before it
-pub offer-back : (s : State) (f : ℕ) → f < length (s .tallies)
-    → withWaiting (offerState s f) f ((tallyAt (offerState s f) f) .waiting - 1) ≡ s
-unfolding offerState
-offer-back s f below =
-    let t : Tally = tallyAt s f in
-    let one : List Tally = (offerState s f) .tallies in
-    let less : Tally → Tally = λ u. record { bucket = u .bucket; entered = u .entered; waiting = u .waiting - 1 } in
-    let same : less (tallyAt (offerState s f) f) ≡ t =
-    ap less (tally-here s f (t .waiting + 1) below)
-    ∙ ap (λ n. record { bucket = t .bucket; entered = t .entered; waiting = n }) (add-sub-cancel (t .waiting) 1) in
-    let back : set one f (less (tallyAt (offerState s f) f)) ≡ s .tallies =
-    ap (set one f) same ∙ set-set (s .tallies) f _ t ∙ set-getD (s .tallies) f (freshTally 0) in
-    λ i. record { plan = s .plan; clock = s .clock; tallies = back i; cells = s .cells }

@@ -31,7 +31,7 @@ module _ (s : State) (flows : List ℕ) where
 
   pub first-plan : (n : ℕ) → (withFirst s flows n) .plan ≡ s .plan
   unfolding offerState
-  first-plan n = turns-along n _ s (λ (t : State). t .plan ≡ s .plan) (λ i l e. e) n (omega arith) refl
+  first-plan n = turns-along n _ s (λ (t : State). t .plan ≡ s .plan) (λ i l e. e) refl
 
   -- none of the first n entries is refused
   abbrev pub Passed : (n : ℕ) → Type 0
@@ -45,7 +45,7 @@ module _ (s : State) (flows : List ℕ) where
   module _ (sound : Sound s) where
     pub first-sound : (n : ℕ) → Passed n → Sound (withFirst s flows n)
     unfolding setNumber
-    first-sound n passed = turns-along n _ s Sound (λ k l now. offer-sound _ _ now (rw (first-plan k) (passed k l))) n (omega arith) sound
+    first-sound n passed = turns-along n _ s Sound (λ k l now. offer-sound _ _ now (rw (first-plan k) (passed k l))) sound
 
     -- all waiting packets
     abbrev waitingIn : State → ℕ

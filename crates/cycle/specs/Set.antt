@@ -25,7 +25,8 @@ waitingAfter s flows added flow = (tallyAt (withFirst s flows added) flow) .wait
 abbrev pub entryNumber : State → (flows : List ℕ) → (position : ℕ) → ℕ
 entryNumber s flows = setNumber (s .plan) (waitingAfter s flows) flows
 
--- a set: state; the first entry that would be refused; otherwise every packet in it is accepted
+-- a set: state; the first entry that would be refused; otherwise every packet in it is accepted. An empty list is accepted and changes
+-- nothing
 unfoldable pub offerSetOn : (words flows : List ℕ) → Outcome Answer (List ℕ)
 offerSetOn words flows =
     let s = stateOf words in

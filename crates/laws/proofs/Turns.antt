@@ -19,15 +19,15 @@ module _ {A : Type 0} where
 
   -- what each of these turns keeps
   pub turns-along : (n : ℕ) (step : ℕ → A → A) (a : A) (Ok : A → Type 0)
-      → ((i : ℕ) → i < n → Ok (turns i step a) → Ok (step i (turns i step a))) → (m : ℕ) → m ≤ n → Ok a → Ok (turns m step a)
+      → ((i : ℕ) → i < n → Ok (turns i step a) → Ok (step i (turns i step a))) → Ok a → Ok (turns n step a)
   unfolding turns
-  turns-along n step a Ok keeps zero l ok = ok
-  turns-along n step a Ok keeps (suc m) l ok = keeps m l (turns-along n step a Ok keeps m (omega arith) ok)
+  turns-along zero step a Ok keeps ok = ok
+  turns-along (suc n) step a Ok keeps ok = keeps n (omega arith) (turns-along n step a Ok (λ i l. keeps i (omega arith)) ok)
 
   module _ (n : ℕ) (step : ℕ → A → A) (Ok : A → Type 0) (keeps : (i : ℕ) (a : A) → i < n → Ok a → Ok (step i a)) where
     -- what every turn keeps, from wherever it begins
     pub turns-keep : (m : ℕ) (a : A) → m ≤ n → Ok a → Ok (turns m step a)
-    turns-keep m a l ok = turns-along n step a Ok (λ i h. keeps i (turns i step a) h) m l ok
+    turns-keep m a l ok = turns-along m step a Ok (λ i h. keeps i (turns i step a) (omega arith)) ok
 
     -- turn i fills slot i and leaves every other slot: after all turns each slot is filled
     pub turns-fill : (Holds : ℕ → A → Type 0)

@@ -2,14 +2,17 @@
 -- laws of a set's states.
 use mathlib.Core.List.{List}
 use mathlib.Core.Path.{_≡_, sym, ap, _∙_}
-use Prim.Native.Nat.{ℕ, _+_, _*_, _≤_, _<_}
+use Prim.Native.Nat.{ℕ, _+_, _-_, _*_, _≤_, _<_}
 use native.Mathlib.Decide.{ℕ-discrete}
+use native.Mathlib.Nat.{add-sub-cancel}
 use native.Mathlib.Omega.{arith}
-use lib.ListN.{length, getD}
+use lib.ListN.{length, getD, set}
+use lib.Seq.{set-set, set-getD}
 use Rattle.flow.specs.Plan.{Plan, mostFlows}
 use Rattle.flow.specs.Limits.{mostWaiting, offerNumber}
 use Rattle.plan.specs.Set.{setNumber}
-use Rattle.state.specs.State.{State, tallyAt}
+use Rattle.state.specs.declared.Tally.{Tally}
+use Rattle.state.specs.State.{State, tallyAt, freshTally}
 use Rattle.state.specs.Words.{stateWords}
 use Rattle.state.specs.Read.{stateOf}
 use Rattle.state.specs.Forms.{stateNumber}
@@ -19,7 +22,7 @@ use Rattle.state.proofs.View.{counted}
 use Rattle.state.proofs.Forms.{state-facts}
 use Rattle.cycle.specs.Offer.{offerState}
 use Rattle.cycle.specs.Set.{withFirst, entryNumber}
-use Rattle.cycle.proofs.Offer.{Sound, words-sound, words-again, over-forms, over-read, over-again, offer-back, tally-here}
+use Rattle.cycle.proofs.Offer.{Sound, words-sound, words-again, over-forms, over-read, over-again, tally-here}
 use Rattle.cycle.proofs.Set.{first-none, first-more, first-plan, first-sound, first-few, entry-known}
 use Rattle.offers.specs.Inner.{lessState, Added}
 
@@ -81,6 +84,20 @@ module _ (before flows : List ℕ) (n : ℕ) (memory : List ℕ) (a : Added befo
           passed = λ k l. elim (ℕ-discrete k n) [ yes same ↦ rw same free | no other ↦ a .passed k (omega arith) ];
           words = e ∙ rw (added-state, entry, ← (first-more s flows n)) (rewritten (withFirst s flows (n + 1)) (first-plan s flows (n + 1)));
         }
+
+-- one waiting less gives the state before it
+offer-back : (s : State) (f : ℕ) → f < length (s .tallies) → lessState (offerState s f) f ≡ s
+unfolding offerState
+offer-back s f below =
+    let t : Tally = tallyAt s f in
+    let one : List Tally = (offerState s f) .tallies in
+    let less : Tally → Tally = λ u. record { bucket = u .bucket; entered = u .entered; waiting = u .waiting - 1 } in
+    let same : less (tallyAt (offerState s f) f) ≡ t =
+    ap less (tally-here s f (t .waiting + 1) below)
+    ∙ ap (λ n. record { bucket = t .bucket; entered = t .entered; waiting = n }) (add-sub-cancel (t .waiting) 1) in
+    let back : set one f (less (tallyAt (offerState s f) f)) ≡ s .tallies =
+    ap (set one f) same ∙ set-set (s .tallies) f _ t ∙ set-getD (s .tallies) f (freshTally 0) in
+    λ i. record { plan = s .plan; clock = s .clock; tallies = back i; cells = s .cells }
 
 -- the last entry is a flow of the state, a packet of it waits, and without that packet there is one entry less
 module _ (before flows : List ℕ) (n : ℕ) (memory : List ℕ) (a : Added before flows (n + 1) memory) (f : ℕ) (entry : f ≡ getD flows n 0) where

@@ -1,6 +1,6 @@
 -- A set beside its single offers, made by calls of their own: accepted, it leaves their words; refused, they stop at its place. Rests
 -- on Added and the laws of first refusals.
-use mathlib.Core.List.{List}
+use mathlib.Core.List.{List, []}
 use mathlib.Core.Path.{_≡_, refl, sym, ap, _∙_}
 use Prim.Native.Nat.{ℕ, zero, suc, _≤_, _<_}
 use native.Mathlib.Numerals.{add-one}
@@ -21,7 +21,7 @@ use Rattle.state.proofs.Over.{unless-passes, unless-refuses, unless-done, unles
 use Rattle.cycle.specs.Offer.{offerState, offerOn}
 use Rattle.cycle.specs.Set.{withFirst, entryNumber, offerSetOn}
 use Rattle.offers.specs.Inner.{Added}
-use Rattle.offers.specs.OneByOne.{inTurn, EachAccepted, EverySet, EveryRefusedSet}
+use Rattle.offers.specs.OneByOne.{inTurn, EachAccepted, EverySet, EveryEmptySet, EveryRefusedSet}
 use Rattle.offers.proofs.Added.{added-none, added-forms, added-number, added-more}
 use Rattle.offers.proofs.Ends.{set-accepted}
 
@@ -88,6 +88,9 @@ every-set words flows e =
       each = each-accepted words flows (h .0) (length flows) (omega arith) (h .1);
       same = sym (ap (λ (o : Outcome Answer (List ℕ)). o .memory) (set-accepted words flows _ added));
     }
+
+pub every-empty-set : EveryEmptySet
+every-empty-set words formed = sym (set-accepted words [] words (added-none words [] formed))
 
 pub every-refused-set : EveryRefusedSet
 every-refused-set words flows n place formed e =

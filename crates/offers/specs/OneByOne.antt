@@ -1,11 +1,12 @@
 -- A set beside its single offers, made by calls of their own one after the other (02, U4).
-use mathlib.Core.List.{List}
+use mathlib.Core.List.{List, []}
 use mathlib.Core.Path.{_≡_}
 use Prim.Native.Nat.{ℕ, _<_}
 use lib.ListN.{length, getD}
 use Rattle.laws.specs.Turns.{turns}
 use Rattle.plan.specs.declared.Answer.the-variants.{Done, Refused}
 use Rattle.state.specs.Forms.{stateNumber}
+use Rattle.state.specs.Outcome.{outcome}
 use Rattle.cycle.specs.Offer.{offerOn}
 use Rattle.cycle.specs.Set.{offerSetOn}
 
@@ -24,6 +25,10 @@ pub record OneByOne (words flows : List ℕ) : Type 0 where
 
 abbrev pub EverySet : Type 0
 EverySet = (words flows : List ℕ) → (offerSetOn words flows) .answer ≡ Done 0 → OneByOne words flows
+
+-- an empty list is accepted and changes nothing
+abbrev pub EveryEmptySet : Type 0
+EveryEmptySet = (words : List ℕ) → stateNumber words ≡ 0 → offerSetOn words [] ≡ outcome (Done 0) words
 
 -- a set that is refused on words that form a state: the single offers before the place are accepted, the one there is refused with
 -- that number, and the set changes nothing

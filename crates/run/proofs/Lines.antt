@@ -13,11 +13,10 @@ use Rattle.laws.specs.Turns.{turns}
 use Rattle.laws.proofs.Count.{count-append}
 use Rattle.laws.proofs.Grid.{tabulate-same}
 use Rattle.laws.proofs.Stands.{stands-first}
-use Rattle.laws.proofs.Turns.{turns-along}
 use Rattle.flow.specs.Plan.{Plan}
 use Rattle.book.specs.Line.{Line, waiting}
-use Rattle.book.specs.Book.{Book, totalOf, waitingOf, enteredOf, offered, offeredLine, offeredFirst}
-use Rattle.book.proofs.Queue.{entered-offer, total-split}
+use Rattle.book.specs.Book.{Book, totalOf, waitingOf, enteredOf, offeredLine, offeredFirst}
+use Rattle.book.proofs.Queue.{set-keeps, entered-offer, total-split}
 use Rattle.state.specs.declared.Tally.{Tally}
 use Rattle.state.specs.Layout.{flowPlace}
 use Rattle.state.specs.Read.{tallyIn}
@@ -64,12 +63,10 @@ module _ (p : Plan) (b : Book) (tail : List ℕ) (f : ℕ) (known : f < length (
 -- the book with the first entries' lines: its clock and what has entered stay, and the entries wait
 module _ (b : Book) (flows : List ℕ) where
   set-clock : (n : ℕ) → (offeredFirst b flows n) .clock ≡ b .clock
-  set-clock n = turns-along n (λ i now. offered now (getD flows i 0)) b (λ (now : Book). now .clock ≡ b .clock) (λ i l e. e) n (omega arith) refl
+  set-clock n = set-keeps b flows (λ (now : Book). now .clock ≡ b .clock) (λ now f e. e) n refl
 
   set-entered : (f n : ℕ) → enteredOf (offeredFirst b flows n) f ≡ enteredOf b f
-  set-entered f n =
-      turns-along n (λ i now. offered now (getD flows i 0)) b (λ (now : Book). enteredOf now f ≡ enteredOf b f)
-      (λ i l e. entered-offer (offeredFirst b flows i) (getD flows i 0) f ∙ e) n (omega arith) refl
+  set-entered f n = set-keeps b flows (λ (now : Book). enteredOf now f ≡ enteredOf b f) (λ now g e. entered-offer now g f ∙ e) n refl
 
   set-waiting : (f n : ℕ) → n ≤ length flows → waitingOf (offeredFirst b flows n) f ≡ waitingOf b f + count (λ g. eqb g f) (take n flows)
   unfolding turns
