@@ -42,7 +42,7 @@ Reads p = windowAnswer (planBytes [] p) 0 ≡ windowBy 0 (windowOf p 0)
 
 reads : Reads (across 10 1) × (Reads (across 2 3) × (Reads (across 1 1) × Reads along))
 unfolding Bounded.allBelow Bounded.tabulate Bytes.littleEndian2 Bytes.littleEndian4 Bytes.twoBytes Bytes.fourBytes Layout.tagged
-    Layout.trailerOf Layout.flowFrom Layout.lastAt Layout.planOf Refusals.headerNumber Refusals.trailerNumber Refusals.recordNumber
+    Layout.trailerOf Layout.periodAt Layout.flowFrom Layout.planOf Refusals.headerNumber Refusals.trailerNumber Refusals.recordNumber
     Refusals.firstRefused Refusals.flowNumber Refusals.planAnswer Written.recordBytes Written.recordsBytes Written.trailerBytes
     Written.planBytes Bounds.asked Bounds.windowAnswer
 reads = (refl, (refl, (refl, refl)))

@@ -44,11 +44,11 @@ trailer-most file =
     number-most (ltb (length file) trailerSize || ltb mostFile (length file)) (omega arith)
     (number-most (not (tagged file)) (omega arith) (header-most (trailerOf file) (length file)))
 
-record-most : (sx sy : ℕ) (f : Flow) (last : ℕ) → recordNumber sx sy f last ≤ 7
+record-most : (sx sy : ℕ) (f : Flow) → recordNumber sx sy f ≤ 7
 unfolding Refusals.recordNumber
-record-most sx sy f last =
+record-most sx sy f =
     number-most (not (onTorus sx sy f)) (omega arith)
-    (number-most (eqb (f .period) 0 || eqb (f .burst) 0 || not (eqb last 0)) (omega arith) (omega arith))
+    (number-most (eqb (f .period) 0 || eqb (f .burst) 0) (omega arith) (omega arith))
 
 first-most : (number : ℕ → ℕ) (m : ℕ) → ((i : ℕ) → number i ≤ m) → (n : ℕ) → NumberMost m (firstRefused number n)
 unfolding Refusals.firstRefused
@@ -61,7 +61,7 @@ pub plan-most : (file : List ℕ) → NumberMost 7 (planAnswer file)
 unfolding Refusals.planAnswer Refusals.flowNumber
 plan-most file =
     or-else-most 7 (answerBy (trailerNumber file) 0) (recordsAnswer file (trailerOf file)) (answer-most 7 (trailerNumber file) 0 (trailer-most file))
-    (first-most (flowNumber file (trailerOf file)) 7 (λ f. record-most _ _ _ _) ((trailerOf file) .count))
+    (first-most (flowNumber file (trailerOf file)) 7 (λ f. record-most _ _ _) ((trailerOf file) .count))
 
 -- no call on a flow adds a larger number than its own
 asked-most : (file : List ℕ) (f m : ℕ) (a : Answer) → 12 ≤ m → NumberMost m a → NumberMost m (asked file f a)

@@ -19,7 +19,7 @@ module _ (file : List ℕ) (t : Trailer) (o : Opened file t) where
   frame = done-trailed file _ (o .done)
 
   pub opened-count : length (planOf file .flows) ≡ t .count
-  opened-count = rw (o .trailer) (plan-count file _ (o .done))
+  opened-count = rw (o .trailer) (plan-count file)
 
   pub opened-sx : planOf file .sx ≡ t .sx
   unfolding Layout.planOf
@@ -44,7 +44,7 @@ module _ (file : List ℕ) (t : Trailer) (f : ℕ) (k : FlowInFile file t f) whe
       omega (arith, trailed .long, k .below)
 
   pub flow-read : flowFrom file (t .start + recordSize * f) ≡ flowAt (planOf file) f
-  flow-read = rw (k .opened .trailer) (sym (plan-flow file _ (k .opened .done) f (rw (k .opened .trailer) at (k .below))))
+  flow-read = rw (k .opened .trailer) (sym (plan-flow file f (rw (k .opened .trailer) at (k .below))))
 
   pub flow-pair : Bytes file → (g : ℕ) → FlowInFile file t g → Pair (t .sx) (t .sy) (flowAt (planOf file) f) (flowAt (planOf file) g)
   flow-pair bytes g l =

@@ -8,7 +8,7 @@ use Rattle.laws.specs.Bounded.{allBelow, tabulate}
 use Rattle.flow.specs.declared.Flow.{Flow}
 use Rattle.flow.specs.Plan.{Plan, flowWith}
 use Rattle.file.specs.declared.Trailer.{Trailer}
-use Rattle.file.specs.Bytes.{littleEndian2, littleEndian4}
+use Rattle.file.specs.Bytes.{thirdByte, littleEndian2, littleEndian4}
 
 -- a plan file has at most 65,536 bytes
 abbrev pub mostFile : ℕ
@@ -39,15 +39,15 @@ trailerOf file =
       sy = getD file (at + 7) 0;
     }
 
--- a record: xs, ys, xd, yd (one byte each), period P (two bytes), burst σ (one byte)
+-- the period P of the record at a place: two bytes, and the record's last byte as the top byte (02, U5)
+unfoldable pub periodAt : List ℕ → ℕ → ℕ
+periodAt file at = littleEndian2 file (at + 4) + thirdByte * getD file (at + 7) 0
+
+-- a record: xs, ys, xd, yd (one byte each), two bytes of the period P, burst σ (one byte), the top byte of P
 unfoldable pub flowFrom : List ℕ → ℕ → Flow
 flowFrom file at =
     flowWith (getD file at 0) (getD file (at + 1) 0) (getD file (at + 2) 0) (getD file (at + 3) 0)
-    (littleEndian2 file (at + 4)) (getD file (at + 6) 0)
-
--- the record's last byte
-unfoldable pub lastAt : List ℕ → ℕ → ℕ
-lastAt file at = getD file (at + 7) 0
+    (periodAt file at) (getD file (at + 6) 0)
 
 -- where the record of flow f stands
 abbrev pub recordAt : Trailer → ℕ → ℕ

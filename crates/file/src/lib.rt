@@ -3,8 +3,8 @@ use flow::Flow;
 ghost use mathlib.Core.Path.{_≡_};
 ghost use Prim.Native.Nat.{_+_, _<_, _≤_};
 ghost use lib.ListN.{length};
-ghost use Rattle.file.specs.Bytes.{littleEndian2};
-ghost use Rattle.file.specs.Layout.{trailerOf, flowFrom, lastAt, tagged, trailerSize, recordSize};
+ghost use Rattle.file.specs.Bytes.{thirdByte, littleEndian2};
+ghost use Rattle.file.specs.Layout.{trailerOf, periodAt, flowFrom, tagged, trailerSize, recordSize};
 
 // A plan file has at most this many bytes.
 pub const MOST_FILE: usize = 65536;
@@ -12,6 +12,8 @@ pub const MOST_FILE: usize = 65536;
 pub const RECORD_SIZE: usize = 8;
 // The bytes of the trailer.
 pub const TRAILER_SIZE: usize = 12;
+// The weight of a number's third byte; two bytes hold the numbers below it.
+pub const THIRD_BYTE: u32 = 65536;
 
 // A plan file's trailer before its tag.
 pub struct Trailer {
@@ -30,7 +32,7 @@ fn wide(b: u8) -> u32
 // The two bytes at a place as a number, the low one first.
 fn little_endian2(file: &[u8], at: usize) -> u32
     requires { ⌜ at + 2 ≤ length (now file) ⌝ }
-    ensures { λ r. ⌜ (r ≡ littleEndian2 (now (file .entry)) at) × (r < 65536) ⌝ }
+    ensures { λ r. ⌜ (r ≡ littleEndian2 (now (file .entry)) at) × (r < thirdByte) ⌝ }
 {
     wide(file[at]) + 256 * wide(file[at + 1])
 }
@@ -44,11 +46,19 @@ pub fn trailer_of(file: &[u8]) -> Trailer
     let low = little_endian2(file, at);
     let high = little_endian2(file, at + 2);
     Trailer {
-        start: low + 65536 * high,
+        start: low + THIRD_BYTE * high,
         count: little_endian2(file, at + 4),
         sx: wide(file[at + 6]),
         sy: wide(file[at + 7]),
     }
+}
+
+// The period of the record at a place, the record's last byte being its top byte.
+fn period_at(file: &[u8], at: usize) -> u32
+    requires { ⌜ at + recordSize ≤ length (now file) ⌝ }
+    ensures { λ r. ⌜ r ≡ periodAt (now (file .entry)) at ⌝ }
+{
+    little_endian2(file, at + 4) + THIRD_BYTE * wide(file[at + 7])
 }
 
 // The six plan numbers of the record at a place.
@@ -61,7 +71,7 @@ pub fn flow_from(file: &[u8], at: usize) -> Flow
         ys: wide(file[at + 1]),
         xd: wide(file[at + 2]),
         yd: wide(file[at + 3]),
-        period: little_endian2(file, at + 4),
+        period: period_at(file, at),
         burst: wide(file[at + 6]),
     }
 }
@@ -79,12 +89,4 @@ pub fn tagged(file: &[u8]) -> bool
         }
     }
     true
-}
-
-// The record's last byte.
-pub fn last_at(file: &[u8], at: usize) -> u32
-    requires { ⌜ at + recordSize ≤ length (now file) ⌝ }
-    ensures { λ r. ⌜ r ≡ lastAt (now (file .entry)) at ⌝ }
-{
-    wide(file[at + 7])
 }

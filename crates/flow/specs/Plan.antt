@@ -31,9 +31,9 @@ mostSize = 16
 abbrev pub mostFlows : ℕ
 mostFlows = 256
 
--- P is 1..65,535
+-- P is 1..16,777,215 (02, U5)
 abbrev pub mostPeriod : ℕ
-mostPeriod = 65535
+mostPeriod = 16777215
 
 -- σ is 1..255
 abbrev pub mostBurst : ℕ

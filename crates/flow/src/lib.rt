@@ -4,6 +4,11 @@ ghost use Prim.Native.Nat.{_≤_, _<_};
 ghost use Rattle.flow.specs.Offsets.{ΔX, ΔY, portOf, sameClient};
 ghost use Rattle.flow.specs.Plan.{mostSize, onTorus};
 
+// A flow's period is at most this.
+pub const MOST_PERIOD: u32 = 16777215;
+// A flow's burst is at most this.
+pub const MOST_BURST: u32 = 255;
+
 // The six plan numbers of a flow, in record order: source, destination, period P and burst σ.
 pub struct Flow {
     pub xs: u32,

@@ -2,4 +2,5 @@
 pub mod Refusals
 pub mod Accepted
 pub mod Ranges
+pub mod Before
 pub mod Written

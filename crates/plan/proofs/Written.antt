@@ -15,29 +15,36 @@ use Rattle.laws.proofs.Parts.{drop-entries}
 use Rattle.flow.specs.declared.Flow.{Flow}
 use Rattle.flow.specs.Plan.{Plan}
 use Rattle.plan.specs.declared.Answer.the-variants.{Done}
-use Rattle.file.specs.Bytes.{littleEndian2, littleEndian4, twoBytes, fourBytes}
-use Rattle.file.specs.Layout.{tag, tagged, trailerOf, flowFrom, lastAt, planOf}
+use Rattle.file.specs.Bytes.{thirdByte, littleEndian2, littleEndian4, twoBytes, fourBytes}
+use Rattle.file.specs.Layout.{tag, tagged, trailerOf, periodAt, flowFrom, planOf}
 use Rattle.plan.specs.Refusals.{planAnswer}
 use Rattle.plan.specs.Notes.{notesOf}
 use Rattle.plan.specs.Written.{recordBytes, recordsBytes, trailerBytes, planBytes}
 use Rattle.plan.proofs.Accepted.{done-trailed}
-use Rattle.plan.proofs.Ranges.{Bytes, done-records, plan-count}
+use Rattle.plan.proofs.Ranges.{Bytes, plan-count}
+
+-- the low two bytes of a number
+low-back : (a b c : ℕ) → a < 256 → b < 256 → twoBytes (a + 256 * b + thirdByte * c) ≡ a ∷ b ∷ []
+unfolding twoBytes
+low-back a b c ha hb =
+    let low : (a + 256 * b + thirdByte * c) % 256 ≡ a = omega arith in
+    let above : (a + 256 * b + thirdByte * c) / 256 ≡ b + 256 * c = omega arith in
+    let second : (b + 256 * c) % 256 ≡ b = omega arith in
+    rw (low, above, second)
+
+-- what stands above them
+top-back : (a b c : ℕ) → a < 256 → b < 256 → (a + 256 * b + thirdByte * c) / thirdByte ≡ c
+top-back a b c ha hb = omega arith
 
 two-back : (a b : ℕ) → a < 256 → b < 256 → twoBytes (a + 256 * b) ≡ a ∷ b ∷ []
-unfolding twoBytes
-two-back a b ha hb =
-    let low : (a + 256 * b) % 256 ≡ a = omega arith in
-    let high : (a + 256 * b) / 256 ≡ b = omega arith in
-    let byte : b % 256 ≡ b = omega arith in
-    rw (low, high, byte)
+two-back a b ha hb = rw (mul-zero, add-zero) at (low-back a b 0 ha hb)
 
 four-back : (a b c d : ℕ) → a < 256 → b < 256 → c < 256 → d < 256
-    → fourBytes (a + 256 * b + 65536 * (c + 256 * d)) ≡ a ∷ b ∷ c ∷ d ∷ []
+    → fourBytes (a + 256 * b + thirdByte * (c + 256 * d)) ≡ a ∷ b ∷ c ∷ d ∷ []
 unfolding fourBytes
 four-back a b c d ha hb hc hd =
-    let low : (a + 256 * b + 65536 * (c + 256 * d)) % 65536 ≡ a + 256 * b = omega arith in
-    let high : (a + 256 * b + 65536 * (c + 256 * d)) / 65536 ≡ c + 256 * d = omega arith in
-    rw (low, high, two-back a b ha hb, two-back c d hc hd)
+    let low : (a + 256 * b + thirdByte * (c + 256 * d)) % thirdByte ≡ a + 256 * b = omega arith in
+    rw (low, top-back a b (c + 256 * d) ha hb, two-back a b ha hb, two-back c d hc hd)
 
 pub records-append : (l : List Flow) (f : Flow) → recordsBytes (l ++ (f ∷ [])) ≡ recordsBytes l ++ recordBytes f
 unfolding recordsBytes
@@ -46,22 +53,29 @@ records-append (g ∷ l) f = rw (records-append l f, append-assoc)
 
 module _ (s : List ℕ) (bytes : Bytes s) where
   -- a record's eight bytes are those written for its flow
-  record-back : (at : ℕ) → at + 8 ≤ length s → lastAt s at ≡ 0 → drop at s ≡ recordBytes (flowFrom s at) ++ drop (at + 8) s
-  unfolding flowFrom lastAt littleEndian2 recordBytes tabulate
-  record-back at h last =
+  record-back : (at : ℕ) → at + 8 ≤ length s → drop at s ≡ recordBytes (flowFrom s at) ++ drop (at + 8) s
+  unfolding flowFrom periodAt littleEndian2 recordBytes tabulate
+  record-back at h =
       let five : at + 4 + 1 ≡ at + 5 = omega arith in
+      let low = bytes (at + 4) in
+      let middle = bytes (at + 5) in
       drop-entries s at 0 8 h
-      ∙ rw (five, two-back (getD s (at + 4) 0) (getD s (at + 5) 0) (bytes (at + 4)) (bytes (at + 5)), last, add-zero)
+      ∙ rw (
+        five,
+        low-back (getD s (at + 4) 0) (getD s (at + 5) 0) (getD s (at + 7) 0) low middle,
+        top-back (getD s (at + 4) 0) (getD s (at + 5) 0) (getD s (at + 7) 0) low middle,
+        add-zero,
+      )
 
-  -- the records from a start on, each of which ends in a zero byte
-  records-back : (start n : ℕ) → start + 8 * n ≤ length s → ((f : ℕ) → f < n → lastAt s (start + 8 * f) ≡ 0)
+  -- the records from a start on
+  records-back : (start n : ℕ) → start + 8 * n ≤ length s
       → drop start s ≡ recordsBytes (tabulate n (λ f. flowFrom s (start + 8 * f))) ++ drop (start + 8 * n) s
   unfolding tabulate recordsBytes
-  records-back start zero h last = rw (mul-zero, add-zero)
-  records-back start (suc n) h last =
+  records-back start zero h = rw (mul-zero, add-zero)
+  records-back start (suc n) h =
       let e : start + 8 * n + 8 ≡ start + 8 * suc n = omega arith in
-      records-back start n (omega arith) (λ f l. last f (omega arith))
-      ∙ rw (record-back (start + 8 * n) (omega arith) (last n (omega arith)), records-append, append-assoc, e)
+      records-back start n (omega arith)
+      ∙ rw (record-back (start + 8 * n) (omega arith), records-append, append-assoc, e)
 
   tag-at : tagged s ≡ true → 12 ≤ length s → (k : ℕ) → k < 4 → getD s (length s - 12 + (8 + k)) 0 ≡ getD tag k 0
   unfolding tagged
@@ -109,9 +123,9 @@ written-back file v bytes e =
     (rw (
       e,
       notes,
-      ← (trailer-back file bytes (framed .tag-ok) (framed .long) (planOf file) (plan-count file v e) refl refl),
+      ← (trailer-back file bytes (framed .tag-ok) (framed .long) (planOf file) (plan-count file) refl refl),
       ← last,
       append-assoc,
-      ← (records-back file bytes (t .start) (t .count) (omega arith) (λ f l. done-records file v e f l .last-zero)),
+      ← (records-back file bytes (t .start) (t .count) (omega arith)),
     )
     (sym (take-append-drop (t .start) file)))

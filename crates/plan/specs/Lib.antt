@@ -2,5 +2,6 @@
 pub mod Refusals
 pub mod Notes
 pub mod Written
+pub mod Before
 pub mod Set
 pub mod Inner

@@ -9,7 +9,7 @@ use Rattle.flow.specs.Plan.{onTorus, mostSize, mostFlows}
 use Rattle.plan.specs.declared.Answer.{Answer}
 use Rattle.plan.specs.declared.Answer.the-variants.{Done, Refused}
 use Rattle.file.specs.declared.Trailer.{Trailer}
-use Rattle.file.specs.Layout.{mostFile, trailerSize, recordSize, tagged, trailerOf, flowFrom, lastAt, recordAt}
+use Rattle.file.specs.Layout.{mostFile, trailerSize, recordSize, tagged, trailerOf, flowFrom, recordAt}
 
 -- an accepted call's 0 for number 0, or the refusal with its place
 abbrev pub answerBy : ℕ → ℕ → Answer
@@ -39,11 +39,11 @@ trailerNumber file =
     (cond (not (tagged file)) 2
     (headerNumber (trailerOf file) (length file)))
 
--- 6: coordinate off the torus; 7: P or σ zero, or last byte not zero
-unfoldable pub recordNumber : ℕ → ℕ → Flow → ℕ → ℕ
-recordNumber sx sy f last =
+-- 6: coordinate off the torus; 7: P or σ zero
+unfoldable pub recordNumber : ℕ → ℕ → Flow → ℕ
+recordNumber sx sy f =
     cond (not (onTorus sx sy f)) 6
-    (cond (eqb (f .period) 0 || eqb (f .burst) 0 || not (eqb last 0)) 7 0)
+    (cond (eqb (f .period) 0 || eqb (f .burst) 0) 7 0)
 
 -- the first of n places whose number is not 0, with that number
 unfoldable pub firstRefused : (ℕ → ℕ) → ℕ → Answer
@@ -52,9 +52,7 @@ firstRefused number (suc n) = refusedOr (firstRefused number n) (answerBy (numbe
 
 -- what flow f is refused for, or 0
 unfoldable pub flowNumber : List ℕ → Trailer → ℕ → ℕ
-flowNumber file t f =
-    let at = recordAt t f in
-    recordNumber (t .sx) (t .sy) (flowFrom file at) (lastAt file at)
+flowNumber file t f = recordNumber (t .sx) (t .sy) (flowFrom file (recordAt t f))
 
 -- flow by flow
 abbrev pub recordsAnswer : List ℕ → Trailer → Answer

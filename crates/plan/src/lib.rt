@@ -70,9 +70,9 @@ fn trailer_number(file: &[u8]) -> u32
     header_number(file::trailer_of(file), length)
 }
 
-// The refusal of a record with the given last byte, or 0.
-fn record_number(sx: u32, sy: u32, f: Flow, last: u32) -> u32
-    ensures { λ r. ⌜ r ≡ recordNumber sx sy f last ⌝ }
+// The refusal of a record, or 0.
+fn record_number(sx: u32, sy: u32, f: Flow) -> u32
+    ensures { λ r. ⌜ r ≡ recordNumber sx sy f ⌝ }
 {
     if !f.on_torus(sx, sy) {
         return 6;
@@ -81,9 +81,6 @@ fn record_number(sx: u32, sy: u32, f: Flow, last: u32) -> u32
         return 7;
     }
     if f.burst == 0 {
-        return 7;
-    }
-    if last != 0 {
         return 7;
     }
     0
@@ -99,12 +96,7 @@ fn records_answer(file: &[u8], t: Trailer) -> Answer
     let count = t.count;
     for f in 0..count {
         let at = start + file::RECORD_SIZE * (f as usize);
-        let number = record_number(
-            t.sx,
-            t.sy,
-            file::flow_from(file, at),
-            file::last_at(file, at),
-        );
+        let number = record_number(t.sx, t.sy, file::flow_from(file, at));
         if number != 0 {
             return Answer::Refused { number, place: f };
         }

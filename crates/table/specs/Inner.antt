@@ -22,7 +22,7 @@ mostLine = 64
 abbrev pub mostTable : ℕ
 mostTable = 16448
 
--- P is 1..65,535, and so is T if there is one
+-- P is in its range, and so is T if there is one
 pub record WaitFits (f : Flow) (window : Window) : Type 0 where
   pub period-least : 1 ≤ f .period
   pub period-most : f .period ≤ mostPeriod

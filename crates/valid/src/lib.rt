@@ -12,11 +12,6 @@ ghost use Rattle.state.specs.Read.{sxIn, countIn, flowIn};
 ghost use Rattle.state.specs.Forms.{headerFits, numbersFit, tallyFits, flowFits, restFits, sizeIn, stateNumber};
 ghost use Rattle.state.specs.Facts.{HeaderFacts, Headed, FlowOf, FlowFacts, ColumnOffsets};
 
-// The most of a flow's period, and of its burst.
-const MOST_PERIOD: u32 = 65535;
-
-const MOST_BURST: u32 = 255;
-
 // The first eight words are those of a state.
 fn header_fits(w: &[u32]) -> bool
     requires { ⌜ headerSize ≤ length (now w) ⌝ }
@@ -41,10 +36,10 @@ fn numbers_fit(sx: u32, sy: u32, f: Flow) -> bool
     if !f.on_torus(sx, sy) {
         return false;
     }
-    if !registers::in_range(f.period, MOST_PERIOD) {
+    if !registers::in_range(f.period, flow::MOST_PERIOD) {
         return false;
     }
-    registers::in_range(f.burst, MOST_BURST)
+    registers::in_range(f.burst, flow::MOST_BURST)
 }
 
 // A flow's bucket, entered and waiting are those of a state.

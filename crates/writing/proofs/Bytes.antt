@@ -10,7 +10,7 @@ use Rattle.flow.specs.declared.Flow.{Flow}
 use Rattle.flow.specs.Plan.{mostSize}
 use Rattle.flow.specs.Ranges.{FlowOk}
 use Rattle.file.specs.Layout.{tag}
-use Rattle.file.specs.Bytes.{twoBytes, fourBytes}
+use Rattle.file.specs.Bytes.{thirdByte, twoBytes, fourBytes}
 use Rattle.plan.specs.Written.{recordBytes}
 
 byte : (n : ℕ) → n < 256 → n % 256 ≡ n
@@ -18,7 +18,7 @@ byte n h = mod-eq-of-lt {n = n} {m = 256} h
 
 pub record-sets : (l : List ℕ) (at : ℕ) (f : Flow) → FlowOk mostSize mostSize f
     → sets (sets l at (f .xs % 256 ∷ f .ys % 256 ∷ f .xd % 256 ∷ f .yd % 256 ∷ []))
-    (at + 4) (f .period % 256 ∷ f .period / 256 % 256 ∷ f .burst % 256 ∷ 0 % 256 ∷ []) ≡ sets l at (recordBytes f)
+    (at + 4) (f .period % 256 ∷ f .period / 256 % 256 ∷ f .burst % 256 ∷ f .period / thirdByte % 256 ∷ []) ≡ sets l at (recordBytes f)
 unfolding recordBytes twoBytes
 record-sets l at f ok =
     rw (
@@ -27,8 +27,9 @@ record-sets l at f ok =
       byte (f .xd) (omega (arith, ok .xd-on)),
       byte (f .yd) (omega (arith, ok .yd-on)),
       byte (f .burst) (omega (arith, ok .burst-most)),
+      byte (f .period / thirdByte) (omega (arith, ok .period-most)),
     )
-    (sets-append l at (f .xs ∷ f .ys ∷ f .xd ∷ f .yd ∷ []) (f .period % 256 ∷ f .period / 256 % 256 ∷ f .burst ∷ 0 ∷ []))
+    (sets-append l at (f .xs ∷ f .ys ∷ f .xd ∷ f .yd ∷ []) (f .period % 256 ∷ f .period / 256 % 256 ∷ f .burst ∷ f .period / thirdByte ∷ []))
 
 pub sizes-bytes : (count sx sy : ℕ) → sx ≤ mostSize → sy ≤ mostSize
     → count % 256 ∷ count / 256 % 256 ∷ sx % 256 ∷ sy % 256 ∷ [] ≡ twoBytes count ++ (sx ∷ sy ∷ [])

@@ -37,8 +37,9 @@ fn put_record(target: &mut [u8], at: usize, f: Flow)
     requires { ⌜ FlowOk mostSize mostSize f ⌝ }
     ensures { λ _. ⌜ now (target .exit) ≡ sets (now (target .entry)) at (recordBytes f) ⌝ }
 {
+    let top = f.period / file::THIRD_BYTE;
     put_bytes(target, at, f.xs, f.ys, f.xd, f.yd);
-    put_bytes(target, at + 4, f.period, f.period / 256, f.burst, 0);
+    put_bytes(target, at + 4, f.period, f.period / 256, f.burst, top);
 }
 
 // Writes the records of a state's flows from a place on.
@@ -61,8 +62,8 @@ fn put_start(target: &mut [u8], at: usize, start: u32)
     requires { ⌜ at + 4 ≤ length (now target) ⌝ }
     ensures { λ _. ⌜ now (target .exit) ≡ sets (now (target .entry)) at (fourBytes start) ⌝ }
 {
-    let bottom = start % 65536;
-    let top = start / 65536;
+    let bottom = start % file::THIRD_BYTE;
+    let top = start / file::THIRD_BYTE;
     put_bytes(target, at, bottom, bottom / 256, top, top / 256);
 }
 

@@ -19,7 +19,7 @@ done c = sym (c .before .before .plan-answer .ensures) ∙ c .enum-told .given .
 -- the count that the trailer has is the plan's
 count : (c : tie.After-trailer-of) → let file = c .before .before .before .before .before .args .file .now in
     length (planOf file .flows) ≡ c .trailer-of .result .count
-count c = rw (c .trailer-of .ensures) (plan-count _ _ (done (c .before)))
+count c = rw (c .trailer-of .ensures) (plan-count _)
 
 returns : tie.Need-returns
 unfolding asked

@@ -13,7 +13,7 @@ returns c =
       ys = row .before .before .wide2 .ensures .0 j;
       xd = row .wide3 .ensures .0 j;
       yd = c .before .before .before .wide4 .ensures .0 j;
-      period = c .before .before .little-endian2 .ensures .0 j;
+      period = c .before .before .period-at .ensures j;
       burst = c .wide5 .ensures .0 j;
     }
 
@@ -21,4 +21,4 @@ pub flow-from-spec : {M : Type 1} → statement M
 flow-from-spec =
     tie.close (tie.spec (λ c. search needs) (λ c. search needs) (λ c. search needs) (λ c. search needs) (λ c. search needs)
     (λ c. search needs) (λ c. search needs) (λ c. search needs) (λ c. search needs) (λ c. search needs) (λ c. search needs)
-    (λ c. search needs) (λ c. search needs) (λ c. search needs) (λ c. search needs) (λ c. search needs) returns)
+    (λ c. search needs) (λ c. search needs) (λ c. search needs) (λ c. search needs) returns)

@@ -1,7 +1,7 @@
 -- `trailer_of`: field by field, what the bytes' readers ensure.
 use borrow.Author.Needs.{needs}
 use Prim.Native.Nat.{_+_, _*_}
-use Rattle.file.specs.Bytes.{littleEndian4}
+use Rattle.file.specs.Bytes.{thirdByte, littleEndian4}
 use Rattle.file.specs.Layout.{trailerOf}
 use Rattle.file.proofs.trailer_of.Statement.{statement}
 use Rattle.file.proofs.trailer_of.Tie as tie
@@ -11,7 +11,7 @@ unfolding trailerOf littleEndian4
 returns c =
     let words = c .before .before .before .before in
     λ j. record {
-      start = words .before .before .little-endian2 .ensures .0 j + 65536 * words .before .little-endian22 .ensures .0 j;
+      start = words .before .before .little-endian2 .ensures .0 j + thirdByte * words .before .little-endian22 .ensures .0 j;
       count = words .little-endian23 .ensures .0 j;
       sx = c .before .before .wide .ensures .0 j;
       sy = c .wide2 .ensures .0 j;

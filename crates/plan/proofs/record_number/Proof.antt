@@ -25,11 +25,7 @@ returns-3 c = search (cases, on (c .before .before .before .before))
 
 returns-4 : tie.Need-returns-4
 unfolding recordNumber
-returns-4 c = search (cases, on (c .before .before .before .before .before))
-
-returns-5 : tie.Need-returns-5
-unfolding recordNumber
-returns-5 c = search (cases, on (c .before .before .before .before .before))
+returns-4 c = search (cases, on (c .before .before .before .before))
 
 pub record-number-spec : {M : Type 1} → statement M
-record-number-spec = tie.close (tie.spec (λ c. search needs) returns returns-2 returns-3 returns-4 returns-5)
+record-number-spec = tie.close (tie.spec (λ c. search needs) returns returns-2 returns-3 returns-4)

@@ -16,19 +16,19 @@ abbrev μ-loop : tie.MeasureT-loop
 μ-loop file t start count f₀ f = count - f
 
 -- the number that was found is the flow's
-found : (c : tie.After-record-number Inv-loop μ-loop) → let l = c .before .before .before .before in let a = l .before .before .before .args in
+found : (c : tie.After-record-number Inv-loop μ-loop) → let l = c .before .before .before in let a = l .before .before .before .args in
     c .record-number .result ≡ flowNumber (a .file .now) (a .t) (l .loop .f)
 unfolding flowNumber
-found c = rw (← (c .before .before .flow-from .ensures), ← (c .before .last-at .ensures)) (c .record-number .ensures)
+found c = rw (← (c .before .flow-from .ensures)) (c .record-number .ensures)
 
 returns : tie.Need-returns Inv-loop μ-loop
 returns c =
-    let test = c .before .before .before .before in
+    let test = c .before .before .before in
     rw (found (c .before)) (first-at _ _ _ (test .loop-test .taken) (test .before .loop .inv .1 .1 .1) (λ e. c .if1 .taken (found (c .before) ∙ e)))
 
 loop-again : tie.Need-loop-again Inv-loop μ-loop
 loop-again c =
-    let passed = c .before .before .before .before .before .loop .inv .1 .1 .1 in
+    let passed = c .before .before .before .before .loop .inv .1 .1 .1 in
     (omega arith, (omega arith, (omega arith, first-more _ _ passed (sym (found (c .before)) ∙ c .if1 .left))))
 
 returns-2 : tie.Need-returns-2 Inv-loop μ-loop
@@ -40,4 +40,4 @@ pub records-answer-spec : {M : Type 1} → statement M
 records-answer-spec =
     tie.close (tie.spec Inv-loop μ-loop (λ c. omega (arith, c .struct-known .given))
     (λ c. (omega arith, (omega arith, (omega arith, first-none _)))) (λ c. omega arith) (λ c. omega arith) (λ c. omega arith)
-    (λ c κs. omega arith) (λ c κs. omega arith) (λ c κs. tt) returns (λ c. omega arith) (λ c. omega arith) loop-again returns-2)
+    (λ c κs. omega arith) (λ c κs. tt) returns (λ c. omega arith) (λ c. omega arith) loop-again returns-2)

@@ -8,7 +8,7 @@ returns : tie.Need-returns
 returns c =
     let second = c .before .before in
     let first = second .before .before .before .before .before in
-    let start = first .before .before .before in
+    let start = first .before .before .before .before in
     rw (second .put-bytes2 .ensures, first .put-bytes .ensures)
     (record-sets (start .args .target .now) (start .args .at) (start .args .f) (start .pre .1))
 
