@@ -1,11 +1,10 @@
 -- Files written before read with the same period. Rests on Ranges.
 use mathlib.Core.List.{List}
-use mathlib.Core.Path.{_≡_, _∙_, ap}
-use Prim.Native.Nat.{ℕ, _+_, _<_}
+use mathlib.Core.Path.{_≡_}
+use Prim.Native.Nat.{ℕ, _+_}
 use native.Mathlib.Omega.{arith}
 use borrow.Author.Tests.{ne-eqb}
 use lib.ListN.{getD}
-use Rattle.flow.specs.declared.Flow.{Flow}
 use Rattle.file.specs.Bytes.{littleEndian2}
 use Rattle.file.specs.Layout.{trailerOf, periodAt, flowFrom, recordAt}
 use Rattle.plan.specs.Before.{RecordBefore, EveryFileBefore}
@@ -21,7 +20,11 @@ module _ (file : List ℕ) (sx sy at : ℕ) (r : RecordBefore file sx sy at) whe
   accepted : recordNumber sx sy (flowFrom file at) ≡ 0
   unfolding recordNumber flowFrom
   accepted =
-      rw (r .on-torus, ne-eqb ((flowFrom file at) .period) 0 (λ e. omega (arith, same-period, r .period-some)), ne-eqb (getD file (at + 6) 0) 0 (λ e. omega (arith, r .burst-some)))
+      rw (
+        r .on-torus,
+        ne-eqb ((flowFrom file at) .period) 0 (λ e. omega (arith, same-period, r .period-some)),
+        ne-eqb (getD file (at + 6) 0) 0 (λ e. omega (arith, r .burst-some)),
+      )
 
 pub every-file-before : EveryFileBefore
 unfolding planAnswer flowNumber

@@ -1,4 +1,4 @@
--- `period_at`: the two bytes' number is below what the third byte counts, so that the period fits.
+-- `period_at`: the two bytes' number is below the third byte's weight, so that the period fits.
 use borrow.Author.Needs.{needs}
 use Rattle.file.specs.Layout.{periodAt}
 use Rattle.file.proofs.period_at.Statement.{statement}
