@@ -24,6 +24,7 @@ extern "C" {
 #define HRT_MOST_PLAN_BYTES 65536
 #define HRT_MOST_SIZE 16
 #define HRT_MOST_FLOWS 256
+#define HRT_MOST_PERIOD 16777215    /* cycles of a flow's period; the least is 1 */
 #define HRT_MOST_WAITING 65535      /* packets of a flow that wait; one offer more is refused with 13 */
 #define HRT_LAST_CLOCK 4294967295u  /* a step in this cycle is refused with 11 */
 #define HRT_MOST_RECENT 16          /* deliveries that a record may hold; the least is 1 */

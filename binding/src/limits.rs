@@ -11,7 +11,7 @@ pub const MOST_SIDE: u32 = 16;
 /// The most flows of a plan; the least is 1.
 pub const MOST_FLOWS: usize = 256;
 /// The longest period of a flow; the shortest is 1.
-pub const MOST_PERIOD: u32 = 65_535;
+pub const MOST_PERIOD: u32 = 16_777_215;
 /// The largest burst of a flow; the smallest is 1.
 pub const MOST_BURST: u32 = 255;
 /// The largest window that is looked for; the smallest is 1.

@@ -209,7 +209,7 @@ impl State {
 #[cfg(test)]
 mod tests {
     use super::*;
-    use crate::limits::LAST_CLOCK;
+    use crate::limits::{LAST_CLOCK, MOST_PERIOD};
 
     const FLOW: Flow = Flow { xs: 0, ys: 0, xd: 3, yd: 3, period: 10, burst: 2 };
 
@@ -222,6 +222,22 @@ mod tests {
     }
 
     #[test]
+    fn a_period_has_the_records_last_byte_on_top() {
+        for (period, [low, middle, top]) in [
+            (1, [1, 0, 0]),
+            (65_535, [0xFF, 0xFF, 0]),
+            (65_536, [0, 0, 1]),
+            (0x12_34_56, [0x56, 0x34, 0x12]),
+            (MOST_PERIOD, [0xFF, 0xFF, 0xFF]),
+        ] {
+            let state = State::fresh(4, 4, &[Flow { period, ..FLOW }]).unwrap();
+            let file = state.write(b"").unwrap();
+            assert_eq!(file[..RECORD_BYTES], [0, 0, 3, 3, low, middle, 2, top]);
+            assert_eq!(State::reset(&file).unwrap().flow(0).period, period);
+        }
+    }
+
+    #[test]
     fn numbers_out_of_range_form_no_state() {
         let number = |sx, sy, flows: &[Flow]| State::fresh(sx, sy, flows).unwrap_err().number;
         assert_eq!(number(17, 4, &[FLOW]), 9);
@@ -229,7 +245,8 @@ mod tests {
         assert_eq!(number(4, 3, &[FLOW]), 9);
         assert_eq!(number(4, 4, &[]), 9);
         assert_eq!(number(4, 4, &[FLOW; 257]), 9);
-        assert_eq!(number(4, 4, &[Flow { period: 65_536, ..FLOW }]), 9);
+        assert_eq!(number(4, 4, &[Flow { period: 0, ..FLOW }]), 9);
+        assert_eq!(number(4, 4, &[Flow { period: MOST_PERIOD + 1, ..FLOW }]), 9);
         assert_eq!(State::of_words(vec![4; 7]).unwrap_err().number, 8);
     }
 

@@ -139,17 +139,20 @@ fn no_escape(text: &[u8]) -> Wrong {
 #[cfg(test)]
 mod tests {
     use super::*;
+    use hrt::limits::MOST_PERIOD;
 
     #[test]
     fn numbers_are_held_to_their_range() {
-        assert_eq!(number(b"65535", "P", 1, 65_535), Ok(65_535));
-        assert_eq!(number(b"007", "P", 1, 65_535), Ok(7));
-        let wrong = |field: &[u8]| number(field, "P", 1, 65_535).unwrap_err();
-        assert_eq!(wrong(b"70000"), "P is 70000; it must be 1 to 65535");
-        assert_eq!(wrong(b"4294967297"), "P is 4294967297; it must be 1 to 65535");
+        let period = |field: &[u8]| number(field, "P", 1, MOST_PERIOD);
+        for (field, read) in [("007", 7), ("65536", 65_536), ("16777215", 16_777_215)] {
+            assert_eq!(period(field.as_bytes()), Ok(read));
+        }
+        let wrong = |field: &[u8]| period(field).unwrap_err();
+        assert_eq!(wrong(b"16777216"), "P is 16777216; it must be 1 to 16777215");
+        assert_eq!(wrong(b"4294967297"), "P is 4294967297; it must be 1 to 16777215");
         assert_eq!(
             wrong(b"99999999999999999999999"),
-            "P is 99999999999999999999999; it must be 1 to 65535"
+            "P is 99999999999999999999999; it must be 1 to 16777215"
         );
         for field in ["-3", "+3", "3.0", "0x3", "1,000", "3a", ":", "/"] {
             assert!(wrong(field.as_bytes()).contains("no whole number"), "{field}");

@@ -191,6 +191,7 @@ impl Tally {
 #[cfg(test)]
 mod tests {
     use super::*;
+    use hrt::limits::{LAST_CLOCK, MOST_PERIOD, MOST_WAITING, MOST_WINDOW};
 
     /// P 10 and T 2: a packet behind q others waits at most 11 × (q + 1) − 1.
     fn tally() -> Tally {
@@ -226,6 +227,18 @@ mod tests {
         tally.accept(5, 0);
         let broken = Err("packet 2 of flow 3: flight 9, bound 8".to_string());
         assert_eq!(tally.leave(&exit(2, 6, 13)), broken);
+    }
+
+    #[test]
+    fn the_largest_bounds_are_whole() {
+        let mut tally = Tally::new(3, MOST_PERIOD, Some(MOST_WINDOW), 8);
+        tally.accept(0, 0);
+        tally.accept(0, MOST_WAITING - 1);
+        let wait = |cycles, bound| Some(Wait { cycles, bound: Some(bound) });
+        assert_eq!(tally.leave(&exit(1, 16_842_748, 16_842_750)), Ok(0));
+        assert_eq!((tally.longest_wait, tally.nearest), (wait(16_842_748, 16_842_748), Some(0)));
+        assert_eq!(tally.leave(&exit(2, LAST_CLOCK - 2, LAST_CLOCK - 1)), Ok(0));
+        assert_eq!(tally.longest_wait, wait(LAST_CLOCK - 2, 1_103_789_555_714));
     }
 
     #[test]
