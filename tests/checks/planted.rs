@@ -3,7 +3,9 @@
 
 mod faults {
     pub mod desk;
+    pub mod files;
     pub mod lines;
+    pub mod periods;
 }
 
 use second::compare::Tally;
@@ -19,8 +21,9 @@ fn faults_are_noticed() {
     let hook = take_hook();
     set_hook(Box::new(|_| ()));
     let mut missed = Vec::new();
-    for (name, caller, reason) in faults::desk::FAULTS.iter().chain(faults::lines::FAULTS) {
-        match difference(&desk, *caller) {
+    let planted = [faults::desk::FAULTS, faults::lines::FAULTS, faults::periods::FAULTS];
+    for (name, caller, reason) in planted.concat() {
+        match difference(&desk, caller) {
             Some(told) if told.contains(reason) => {}
             Some(told) => missed.push(format!("{name}: noticed, but by {told}")),
             None => missed.push(format!("{name}: not noticed")),

@@ -2,7 +2,7 @@
 //! what is printed, or in the files that are left.
 
 use second::desk::program::{Caller, Output, Program, write};
-use second::plan::read;
+use second::plan::{Plan, read};
 use second::window::{lone_wait, window};
 use std::fs;
 
@@ -30,7 +30,7 @@ pub const FAULTS: &[Fault] = &[
         |desk, words, input| of_exits(desk.answer(words, input), |line| line[6] = 0),
         "columns deflections.",
     ),
-    ("exits of a cycle in another order", exits_exchanged, "columns flow "),
+    ("exits of a cycle in another order", exits_exchanged, "columns flow"),
     ("offers after the step of their cycle", late_offers, "columns exit entry wait."),
     (
         "left counted at the entry",
@@ -157,13 +157,6 @@ pub const FAULTS: &[Fault] = &[
         "there is no flow",
     ),
     (
-        "a period modulo 65,536",
-        |desk, words, input| {
-            with_file(desk, words, input, "mode.txt", |text| text.replace("70000", "4464"))
-        },
-        "the period P is 70000",
-    ),
-    (
         "an escape lost by show",
         |desk, words, input| match (words, desk.answer(words, input)) {
             (["show", ..], output) => {
@@ -197,7 +190,7 @@ pub fn number(cell: &str) -> i64 {
 }
 
 /// The lines of what is printed, changed. Other bytes than text stay as they are.
-fn of_lines(output: Output, change: impl Fn(&str) -> String) -> Output {
+pub fn of_lines(output: Output, change: impl Fn(&str) -> String) -> Output {
     match String::from_utf8(output.out) {
         Ok(text) => {
             let changed = |line: &str| match line.strip_suffix('\n') {
@@ -305,6 +298,16 @@ fn late_offers(desk: &Program, words: &[&str], input: &[u8]) -> Output {
 
 /// Every wait beside the bound of a packet with none in front of it.
 pub fn lone_bounds(desk: &Program, words: &[&str], input: &[u8]) -> Output {
+    with_bounds(desk, words, input, |plan, flow, t, _| lone_wait(plan, flow, t))
+}
+
+/// Every wait beside another bound, made of the plan, the flow, its T and the bound.
+pub fn with_bounds(
+    desk: &Program,
+    words: &[&str],
+    input: &[u8],
+    change: fn(&Plan, usize, i64, i64) -> i64,
+) -> Output {
     let output = desk.answer(words, input);
     let file = words.get(1).and_then(|name| fs::read(desk.file(name)).ok()).unwrap_or_default();
     let Ok((plan, _)) = read(&file) else {
@@ -313,7 +316,7 @@ pub fn lone_bounds(desk: &Program, words: &[&str], input: &[u8]) -> Output {
     of_rows(output, |row| {
         let flow = number(&row[0]) as usize;
         if let ("run", Some(t), true) = (words[0], window(&plan, flow), row[6] != "-") {
-            let bound = lone_wait(&plan, flow, t);
+            let bound = change(&plan, flow, t, number(&row[7]));
             row[7] = bound.to_string();
             row[8] = (bound - number(&row[6])).to_string();
         }
@@ -348,25 +351,6 @@ fn of_told(output: Output, change: impl Fn(&str) -> String) -> Output {
         true => Output { err: change(&output.err), ..output },
         false => output,
     }
-}
-
-/// A call that reads a file of its words as another text than it is.
-pub fn with_file(
-    desk: &Program,
-    words: &[&str],
-    input: &[u8],
-    name: &str,
-    change: impl Fn(&str) -> String,
-) -> Output {
-    let path = desk.file(name);
-    let text = fs::read(&path).unwrap_or_default();
-    if let (true, Ok(old)) = (words.contains(&name), std::str::from_utf8(&text)) {
-        write(&path, change(old).as_bytes());
-        let output = desk.answer(words, input);
-        write(&path, &text);
-        return output;
-    }
-    desk.answer(words, input)
 }
 
 /// A call of plan that ends with this status and leaves a file.

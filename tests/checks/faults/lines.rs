@@ -1,6 +1,7 @@
 //! Faults of the desk in lines with several flows.
 
-use super::desk::{Fault, lone_bounds, number, of_rows, with_file};
+use super::desk::{Fault, lone_bounds, number, of_rows};
+use super::files::with_file;
 use second::desk::program::{Output, Program};
 
 pub const FAULTS: &[Fault] = &[

@@ -26,7 +26,7 @@ pub fn processes(program: &Program) {
 }
 
 /// One sentence, and the status.
-fn sentence(got: Output, status: i32, text: &str) {
+pub fn sentence(got: Output, status: i32, text: &str) {
     assert_eq!((got.status, got.err), (status, format!("{text}\n")), "{text}");
     assert_eq!(got.out, b"", "{text}");
 }

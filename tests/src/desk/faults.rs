@@ -34,24 +34,33 @@ fn number_faults() -> Vec<Case> {
         with("flow 0 3 1 1 10 1", &format!("YS, a row, is 3; {}", on("row", 3))),
         with("flow 0 0 4 1 10 1", &format!("XD, a column, is 4; {}", on("column", 4))),
         with("flow 0 0 1 256 10 1", &format!("YD, a row, is 256; {}", on("row", 3))),
-        with("flow 0 0 1 1 0 1", "the period P is 0; it must be 1 to 65535"),
-        with("flow 0 0 1 1 65536 1", "the period P is 65536; it must be 1 to 65535"),
-        with("flow 0 0 1 1 70000 1", "the period P is 70000; it must be 1 to 65535"),
         with("flow 0 0 1 1 10 0", "the burst SIGMA is 0; it must be 1 to 255"),
         with("flow 0 0 1 1 10 300", "the burst SIGMA is 300; it must be 1 to 255"),
     ];
     for number in ["-1", "+1", "1.5", "0x10", "ten", "1,000", "10s", "\\n"] {
         let shown = number.replace('\\', "\\\\");
-        let text =
-            format!("the period P is '{shown}', which is no whole number; it must be 1 to 65535");
-        cases.push(with(&format!("flow 0 0 1 1 {number} 1"), &text));
+        cases.push(period(number, &format!("'{shown}', which is no whole number")));
     }
-    for number in ["4294967297", "18446744073709551617", "340282366920938463463374607431768211457"]
-    {
-        let text = format!("the period P is {number}; it must be 1 to 65535");
-        cases.push(with(&format!("flow 0 0 1 1 {number} 1"), &text));
+    // Both ends, and numbers whose low 24, 32, 64 or 128 bits are a period.
+    for number in [
+        "0",
+        "16777216",
+        "20000000",
+        "4294967297",
+        "18446744073709551617",
+        "340282366920938463463374607431768211457",
+    ] {
+        cases.push(period(number, number));
     }
     cases
+}
+
+/// A text with a faulty period, which is told as this.
+fn period(number: &str, told: &str) -> Case {
+    with(
+        &format!("flow 0 0 1 1 {number} 1"),
+        &format!("the period P is {told}; it must be 1 to 16777215"),
+    )
 }
 
 fn line_faults() -> Vec<Case> {
@@ -115,12 +124,12 @@ fn whole_faults() -> Vec<Case> {
         ),
         case(&format!("torus 1 1\n{flow}{}", note.repeat(66)), &[(68, outgrow.as_str())]),
         case(
-            "torus 4 4\nflow 9 9 1 1 10 1\nwhat\nflow 0 0 1 1 70000 300",
+            "torus 4 4\nflow 9 9 1 1 10 1\nwhat\nflow 0 0 1 1 16777216 300",
             &[
                 (2, "XS, a column, is 9; it must be 0 to 3 on a torus of 4 columns"),
                 (2, "YS, a row, is 9; it must be 0 to 3 on a torus of 4 rows"),
                 (3, "what is 'what'? a line starts with torus, flow, note or #"),
-                (4, "the period P is 70000; it must be 1 to 65535"),
+                (4, "the period P is 16777216; it must be 1 to 16777215"),
                 (4, "the burst SIGMA is 300; it must be 1 to 255"),
             ],
         ),

@@ -1,9 +1,10 @@
 //! The desk program beside the second simulator: what `run` prints for random plans and streams, the
-//! round trip of `show` and `plan`, each fault of texts and streams, and how it ends.
+//! round trip of `show` and `plan`, each fault of texts and streams, long periods, and how it ends.
 
 mod ends;
 pub mod expected;
 mod faults;
+mod periods;
 pub mod program;
 mod sets;
 mod streams;
@@ -19,6 +20,7 @@ pub fn run(program: &str, seed: u64, extent: Extent) -> Tally {
     let mut tally = Tally::new(seed);
     calls(&program, &mut tally, extent);
     ends::processes(&program);
+    periods::longest(&program);
     tally
 }
 
@@ -30,8 +32,11 @@ pub fn calls(program: &Program, tally: &mut Tally, extent: Extent) {
     streams::full_queue(program, tally);
     sets::behind_each_other(program, tally);
     sets::full_queue(program, tally);
-    sets::full_queues(program, tally);
     streams::met_exactly(program, tally);
+    periods::texts(program, tally);
+    periods::refused(program, tally);
+    periods::runs(program, tally);
+    sets::full_queues(program, tally);
     rounds("desk", tally, extent, |tally, random, sx, sy| {
         texts::round(program, tally, random, sx, sy);
         streams::round(program, tally, random, sx, sy);
