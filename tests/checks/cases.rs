@@ -207,8 +207,11 @@ fn the_sample_listing() {
     damaged[27] = 0x51;
     assert_eq!(listing(&damaged), "refused 2 0\n");
     damaged = file;
-    damaged[15] = 1;
+    damaged[14] = 0;
     assert_eq!(listing(&damaged), "refused 7 1\n");
+    let mut slow = file;
+    slow[15] = 1;
+    assert_eq!(listing(&slow), "flow port window flight wait\n0 E 3 3 11\n1 E 1 5 65545\n");
 }
 
 /// A state that no run reaches (two lines with one serial) is a state all the same.

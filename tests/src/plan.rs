@@ -1,4 +1,4 @@
-//! Plan files, by 01's "Torus and plan file", and the refusals 1 to 7.
+//! Plan files, by 01's "Torus and plan file" with U5's periods, and the refusals 1 to 7.
 //! Numbers are integers here (i64), so that nothing wraps.
 
 /// What a refused call returns: a number of 01's table and a place.
@@ -50,6 +50,8 @@ pub struct Plan {
 pub const MOST_BYTES: usize = 65_536;
 pub const TRAILER: usize = 12;
 pub const RECORD: usize = 8;
+/// The longest period: three bytes.
+pub const MOST_PERIOD: i64 = 16_777_215;
 
 impl Plan {
     /// ΔX of flow f.
@@ -80,9 +82,8 @@ impl Plan {
         let mut file = notes.to_vec();
         for flow in &self.flows {
             let [xs, ys, xd, yd, period, burst] = flow.numbers();
-            file.extend([xs as u8, ys as u8, xd as u8, yd as u8]);
-            file.extend((period as u16).to_le_bytes());
-            file.extend([burst as u8, 0]);
+            let [low, middle, top, ..] = period.to_le_bytes();
+            file.extend([xs as u8, ys as u8, xd as u8, yd as u8, low, middle, burst as u8, top]);
         }
         file.extend((notes.len() as u32).to_le_bytes());
         file.extend((self.flows.len() as u16).to_le_bytes());
@@ -124,8 +125,9 @@ pub fn read(file: &[u8]) -> Result<(Plan, &[u8]), Refusal> {
         if xs >= sx || xd >= sx || ys >= sy || yd >= sy {
             return refuse(6, f);
         }
-        let (period, burst) = (little_endian(&record[4..6]) as i64, record[6] as i64);
-        if period == 0 || burst == 0 || record[7] != 0 {
+        let period = little_endian(&[record[4], record[5], record[7]]) as i64;
+        let burst = record[6] as i64;
+        if period == 0 || burst == 0 {
             return refuse(7, f);
         }
         flows.push(Flow { xs, ys, xd, yd, period, burst });

@@ -1,7 +1,8 @@
-//! The state's words, by 01's "State memory": written from a book's lines, and judged.
+//! The state's words, by 01's "State memory" with U5's periods: written from a book's lines, and
+//! judged.
 
 use crate::book::{Book, Bucket, Line, Place, Router, Side};
-use crate::plan::{Flow, Plan, Refusal, refuse};
+use crate::plan::{Flow, MOST_PERIOD, Plan, Refusal, refuse};
 
 pub const HEADER: usize = 8;
 pub const PER_FLOW: usize = 10;
@@ -76,7 +77,7 @@ pub fn judge(memory: &[u32]) -> Result<Book, Refusal> {
         let [tokens, counter, entered, waiting] = [6, 7, 8, 9].map(|i| word(flow_at(f) + i));
         let flow = book.plan.flows[f];
         let on_torus = flow.xs < sx && flow.xd < sx && flow.ys < sy && flow.yd < sy;
-        let ranges = (1..=65_535).contains(&flow.period) && (1..=255).contains(&flow.burst);
+        let ranges = (1..=MOST_PERIOD).contains(&flow.period) && (1..=255).contains(&flow.burst);
         let bucket = tokens <= flow.burst && counter < flow.period;
         if !(on_torus && ranges && bucket && waiting <= 65_535 && entered <= clock) {
             return refuse(9, 0);

@@ -1,5 +1,5 @@
-//! Windows and flight bounds, by 01's "Windows" with U3's curve. The search goes t by t, with no
-//! leaps.
+//! Windows and flight bounds, by 01's "Windows" with U3's curve and U5's periods. The search goes t by
+//! t, with no leaps, and ends at 65,535 however long a period is.
 
 use crate::plan::{Plan, Port, Refusal, read, refuse};
 

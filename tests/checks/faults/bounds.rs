@@ -162,7 +162,7 @@ pub const FAULTS: &[(&str, fn(&mut Given))] = &[
         if number == 6 {
             let start = u32::from_le_bytes(given.file[trailer..][..4].try_into().unwrap());
             let record = &given.file[start as usize + 8 * place..][..8];
-            if record[4..6] == [0, 0] || record[6] == 0 || record[7] != 0 {
+            if [record[4], record[5], record[7]] == [0; 3] || record[6] == 0 {
                 given.answer += 1 << 32;
             }
         }
