@@ -1,7 +1,7 @@
 //! Random numbers with a seed (splitmix64), and random plans, notes and states made with them.
 
 use crate::book::{Book, Bucket, Place, Side};
-use crate::plan::{Flow, Plan};
+use crate::plan::{Flow, MOST_PERIOD, Plan};
 use crate::state::{HEADER, PER_FLOW, PER_REGISTER, places, register_at};
 
 pub struct Random(u64);
@@ -55,14 +55,30 @@ pub fn flow_count(random: &mut Random) -> usize {
     random.from(if most == 256 { 200 } else { 1 }, most) as usize
 }
 
+/// Long periods: about the ends of two bytes and of three, and with low bytes of 0.
+pub const LONG_PERIODS: [i64; 8] =
+    [65_535, 65_536, 65_537, 0x1_0100, 0x2_0000, 0xFF_0000, MOST_PERIOD - 1, MOST_PERIOD];
+
+/// The period of a slow flow: a telling one, one with low bytes of 0, or any over 65,535.
+fn long_period(random: &mut Random) -> i64 {
+    match random.from(0, 9) {
+        0..4 => random.pick(&LONG_PERIODS),
+        4 => 65_536 * random.from(1, 255),
+        5 => 256 * random.from(256, 65_535),
+        _ => random.from(65_536, MOST_PERIOD),
+    }
+}
+
 /// A plan on an sx by sy torus. Clients are shared by several flows, some flows are
-/// self-addressed; periods and bursts are small, large or at their ends.
+/// self-addressed; periods and bursts are small, large or at their ends. Some plans have slow flows
+/// among the others.
 pub fn plan(random: &mut Random, sx: i64, sy: i64, flows: usize) -> Plan {
     let clients = random.from(1, flows as i64) as usize;
     let places: Vec<_> =
         (0..clients).map(|_| (random.from(0, sx - 1), random.from(0, sy - 1))).collect();
     let longest = random.pick(&[1, 3, 12, 60, 600, 65_535]);
     let largest = random.pick(&[1, 2, 4, 255]);
+    let slow = random.pick(&[0, 0, 0, 0, 10, 60]);
     let mut flow = || {
         let (xs, ys) = random.pick(&places);
         let (xd, yd) = match random.from(0, 9) {
@@ -71,7 +87,13 @@ pub fn plan(random: &mut Random, sx: i64, sy: i64, flows: usize) -> Plan {
             2 => random.pick(&places),
             _ => (random.from(0, sx - 1), random.from(0, sy - 1)),
         };
-        let period = if random.percent(10) { longest } else { random.from(1, longest) };
+        let period = if random.percent(slow) {
+            long_period(random)
+        } else if random.percent(10) {
+            longest
+        } else {
+            random.from(1, longest)
+        };
         let burst = if random.percent(10) { largest } else { random.from(1, largest) };
         Flow { xs, ys, xd, yd, period, burst }
     };
@@ -111,9 +133,7 @@ pub fn state(random: &mut Random, plan: &Plan) -> Vec<u32> {
     book.clock = clock;
     for (f, flow) in plan.flows.iter().enumerate() {
         let tokens = if random.percent(30) { flow.burst } else { random.from(0, flow.burst) };
-        let highest = flow.period - 1;
-        let count = if random.percent(30) { highest } else { random.from(0, highest) };
-        book.buckets[f] = Bucket { tokens, count };
+        book.buckets[f] = Bucket { tokens, count: count(random, flow.period) };
         book.entered[f] = if random.percent(20) { clock } else { random.from(0, clock) };
     }
     let mut words = crate::state::words(&book);
@@ -137,6 +157,21 @@ pub fn state(random: &mut Random, plan: &Plan) -> Vec<u32> {
         }
     }
     words
+}
+
+/// A count below the period: often the last. A slow flow's is often near the last too, or about to
+/// turn its two low bytes over.
+fn count(random: &mut Random, period: i64) -> i64 {
+    let (highest, near) = (period - 1, random.from(0, 12));
+    match random.from(0, 9) {
+        0..3 => highest,
+        3 if period > 65_535 => highest - near,
+        4 if period > 65_535 => {
+            let turns = random.from(1, (highest / 65_536).max(1));
+            highest.min(65_536 * turns - near)
+        }
+        _ => random.from(0, highest),
+    }
 }
 
 /// A packet that may be in this place (flow + 1, serial, entry, D), if a few tries find one.
