@@ -1,7 +1,7 @@
 //! The whole listing: the program, and the same in plain Rust as a program of its own.
 
 use crate::loads::{Load, SIZES, case};
-use crate::plain::Plain;
+use crate::plain::{Plain, numbers};
 use crate::times::{PLAIN_AND_ARCHIVE, print_row};
 use second::host::Bounds;
 use std::io::{Read, Write, stdin, stdout};
@@ -25,9 +25,9 @@ pub fn text(file: &[u8]) -> String {
     text += "flow port window flight wait\n";
     let records = file[start as usize..file.len() - 12].as_chunks::<8>().0;
     for (f, record) in records.iter().enumerate() {
-        let port = if record[0] == record[2] { 'S' } else { 'E' };
+        let [xs, _, xd, _, period, _] = numbers(record);
+        let port = if xs == xd { 'S' } else { 'E' };
         let flight = Plain.flight(file, f as u32);
-        let period = u16::from_le_bytes([record[4], record[5]]) as u32;
         let line = match Plain.window(file, f as u32) {
             t @ 1..65_536 => writeln!(text, "{f} {port} {t} {flight} {}", period + t - 2),
             _ => writeln!(text, "{f} {port} - {flight} -"),

@@ -167,8 +167,9 @@ impl Engine for Plain {
         target[..start].copy_from_slice(notes);
         let records = target[start..trailer].as_chunks_mut().0;
         for (record, flow) in records.iter_mut().zip(state.flows) {
-            let [xs, ys, xd, yd, period, burst] = [0, 1, 2, 3, 4, 5].map(|i| flow[i] as u8);
-            *record = [xs, ys, xd, yd, period, (flow[4] >> 8) as u8, burst, 0];
+            let [xs, ys, xd, yd, _, burst] = [0, 1, 2, 3, 4, 5].map(|i| flow[i] as u8);
+            let [p0, p1, p2, _] = flow[4].to_le_bytes();
+            *record = [xs, ys, xd, yd, p0, p1, burst, p2];
         }
         let count = state.flows.len() as u16;
         target[trailer..trailer + 4].copy_from_slice(&(start as u32).to_le_bytes());

@@ -1,5 +1,5 @@
 //! The calls in plain Rust: the honest baseline. Written for speed, with every check of 01's
-//! table, of U1 and of U4, on the same memory; safe Rust with no heap.
+//! table, of U1 and of U4, and with U5's periods, on the same memory; safe Rust with no heap.
 
 mod bounds;
 mod engine;
@@ -7,6 +7,8 @@ mod plan;
 mod recent;
 mod sets;
 mod state;
+
+pub use plan::numbers;
 
 /// The plain engine.
 pub struct Plain;

@@ -31,19 +31,19 @@ pub fn read(file: &[u8]) -> Result<File<'_>, u64> {
         return Err(refused(5, 0));
     }
     let records = file[start..length - 12].as_chunks::<8>().0;
-    for (f, &[xs, ys, xd, yd, p0, p1, burst, last]) in records.iter().enumerate() {
+    for (f, &[xs, ys, xd, yd, p0, p1, burst, p2]) in records.iter().enumerate() {
         if xs >= sx || xd >= sx || ys >= sy || yd >= sy {
             return Err(refused(6, f));
         }
-        if p0 | p1 == 0 || burst == 0 || last != 0 {
+        if p0 | p1 | p2 == 0 || burst == 0 {
             return Err(refused(7, f));
         }
     }
     Ok(File { sx: sx as u32, sy: sy as u32, start, records })
 }
 
-/// A record's six numbers.
-pub fn numbers(&[xs, ys, xd, yd, p0, p1, burst, _]: &[u8; 8]) -> [u32; 6] {
-    let period = u16::from_le_bytes([p0, p1]) as u32;
+/// A record's six numbers. The last byte is the top one of the period.
+pub fn numbers(&[xs, ys, xd, yd, p0, p1, burst, p2]: &[u8; 8]) -> [u32; 6] {
+    let period = u32::from_le_bytes([p0, p1, p2, 0]);
     [xs as u32, ys as u32, xd as u32, yd as u32, period, burst as u32]
 }

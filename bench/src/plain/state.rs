@@ -1,6 +1,7 @@
 //! The words of a state: the refusals 8 and 9.
 
 use super::{offset, refused};
+use second::plan::MOST_PERIOD;
 
 pub type FlowWords = [u32; 10];
 pub type Register = [u32; 4];
@@ -48,7 +49,7 @@ fn flow_holds(state: &State, flow: &FlowWords) -> bool {
         && xd < sx
         && ys < sy
         && yd < sy
-        && (1..=65_535).contains(&period)
+        && (1..=MOST_PERIOD as u32).contains(&period)
         && (1..=255).contains(&burst)
         && tokens <= burst
         && count < period
