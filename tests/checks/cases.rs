@@ -78,9 +78,9 @@ fn windows() {
 
 #[test]
 fn the_last_window() {
-    let plan = late_window(LAST_WINDOW);
+    let plan = late_window(LAST_WINDOW, &[]);
     assert_eq!((spread(&plan, 0, 1), window(&plan, 0)), (Some(2), Some(65_535)));
-    let plan = late_window(PAST_THE_LAST);
+    let plan = late_window(PAST_THE_LAST, &[]);
     assert_eq!(window_call(&plan.file(&[]), 0), no(14, 0));
     assert!(interference(&rivals(&plan, 0), 65_536) < 65_536);
 }

@@ -3,7 +3,7 @@
 
 use second::book::Book;
 use second::promises::{check, windows};
-use second::slips::{met_exactly, refuted};
+use second::slips::{met_exactly, met_late, refuted};
 use second::window::{lone_wait, window};
 use second::worst::{Worst, worst_wait};
 
@@ -44,6 +44,14 @@ fn the_bound_is_met_exactly() {
     assert_eq!(window(&plan, 0), Some(17));
     assert_eq!((list.wait, lone_wait(&plan, 0, 17)), (16, 16));
     assert_eq!(replay(&list, &plan, 0), 16);
+}
+
+#[test]
+fn a_slow_flows_bound_is_met_exactly() {
+    let (plan, list) = met_late();
+    assert_eq!(window(&plan, 0), Some(3));
+    assert_eq!((list.wait, lone_wait(&plan, 0, 3)), (65_537, 65_537));
+    assert_eq!(replay(&list, &plan, 0), 65_537);
 }
 
 /// All 28,374 books that lists of this plan reach.

@@ -146,3 +146,15 @@ pub fn met_exactly() -> (Plan, Worst) {
     let offers = list.split(',').map(digits).collect();
     (plan(2, 4, &flows), Worst { wait: 16, offers })
 }
+
+/// A column of two slow flows in which flow 0 can wait as long as its bound allows (P 65,536, T 3, wait
+/// 65,537), and a list that makes its last packet do so: its token comes at the end of a whole period,
+/// and then two packets of flow 1 pass.
+pub fn met_late() -> (Plan, Worst) {
+    let flows = [[0, 0, 0, 1, 65_536, 1], [0, 1, 0, 0, 65_536, 1]];
+    let mut offers = vec![Vec::new(); 131_075];
+    for (cycle, flow) in [(65_535, 0), (65_536, 0), (65_537, 0), (131_071, 1), (131_072, 1)] {
+        offers[cycle].push(flow);
+    }
+    (plan(1, 2, &flows), Worst { wait: 65_537, offers })
+}

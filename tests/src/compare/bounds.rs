@@ -1,6 +1,6 @@
 //! The bounds part: window, flight bound and notes.
 
-use super::{Call, Tally, plans};
+use super::{Call, Tally, periods, plans};
 use crate::host::{Bounds, returned_window};
 use crate::plan::{Flow, Plan};
 use crate::random::{self, Random};
@@ -47,10 +47,11 @@ fn offsets(host: &impl Bounds, tally: &mut Tally) {
     }
 }
 
-/// Every offset, the plans that refute a slipped window, and every boundary, once.
+/// Every offset, the plans that refute a slipped window, slow rivals, every boundary, and filled links,
+/// once.
 pub fn boundaries(host: &impl Bounds, tally: &mut Tally) {
     offsets(host, tally);
-    for plan in refuted().into_iter().map(|row| row.plan) {
+    for plan in refuted().into_iter().map(|row| row.plan).chain(periods::slow_rivals()) {
         for flow in 0..=plan.flows.len() as u32 {
             all_three(host, tally, &plan.file(&[]), flow);
         }
@@ -60,6 +61,9 @@ pub fn boundaries(host: &impl Bounds, tally: &mut Tally) {
         for flow in [1, 2, 3, 255, 256, 257, 65_536, u32::MAX] {
             notes_and_flight(host, tally, &file, flow);
         }
+    }
+    for plan in periods::filled_links() {
+        all_three(host, tally, &plan.file(&[]), 0);
     }
 }
 

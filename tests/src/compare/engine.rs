@@ -15,12 +15,14 @@ pub fn all_came_up(tally: &Tally) {
     tally.must_have_come_up("write", &[8, 9, 1, 15]);
 }
 
-pub fn reset(host: &impl Engine, tally: &mut Tally, file: &[u8], state: &mut Twin<u32>) {
+/// Reset: is it to be accepted?
+pub fn reset(host: &impl Engine, tally: &mut Tally, file: &[u8], state: &mut Twin<u32>) -> bool {
     let expected = calls::reset(file, state.expected());
     let got = host.reset(file, state.got());
     let call = Call { name: "reset", with: &(file, state.lent.len()) };
     tally.answer(call, expected, got);
     tally.memory(call, state);
+    expected.is_ok()
 }
 
 pub fn offer(host: &impl Engine, tally: &mut Tally, state: &mut Twin<u32>, flow: u32) {
@@ -69,7 +71,7 @@ pub fn step(
     expected.ok().map(|exits| (delivery, exits))
 }
 
-/// Writing to a target of so many bytes of noise.
+/// Writing to a target of so many bytes of noise. Gives the target.
 pub fn write(
     host: &impl Engine,
     tally: &mut Tally,
@@ -77,7 +79,7 @@ pub fn write(
     state: &mut Twin<u32>,
     notes: &[u8],
     room: usize,
-) {
+) -> Twin<u8> {
     let mut target = Twin::noise_bytes(random, room);
     let expected = calls::write(state.expected(), notes, target.expected());
     let got = host.write(state.got(), notes, target.got());
@@ -85,4 +87,5 @@ pub fn write(
     tally.answer(call, expected, got);
     tally.memory(call, state);
     tally.memory(call, &target);
+    target
 }

@@ -1,7 +1,7 @@
 //! The listing: what is printed for a plan file.
 
 use super::parts::{Extent, rounds};
-use super::{Tally, plans};
+use super::{Tally, periods, plans};
 use crate::plan::read;
 use crate::random::{self, Random};
 use crate::slips::refuted;
@@ -10,14 +10,16 @@ use std::io::Write;
 use std::process::{Command, Stdio};
 
 /// Compares what `print` gives for files of telling lengths, for plans that refute a slipped window,
-/// for some files at the boundary of a refusal, and for random and damaged plans.
+/// for late windows and slow rivals, for some files at the boundary of a refusal, and for random and
+/// damaged plans.
 pub fn run(print: impl Fn(&[u8]) -> Vec<u8>, seed: u64, extent: Extent) -> Tally {
     let mut tally = Tally::new(seed);
     for length in [0, 11, 12, 65_535, 65_536, 65_537, 70_000] {
         compare(&print, &mut tally, &vec![0x50; length]);
     }
-    for row in refuted() {
-        compare(&print, &mut tally, &row.plan.file(&[]));
+    let slipped = refuted().into_iter().map(|row| row.plan);
+    for plan in slipped.chain(plans::late_windows()).chain(periods::slow_rivals()) {
+        compare(&print, &mut tally, &plan.file(&[]));
     }
     for file in plans::at_boundaries().iter().step_by(16) {
         compare(&print, &mut tally, file);

@@ -9,7 +9,7 @@ use crate::host::Engine;
 use crate::plan::Plan;
 use crate::promises::{Windows, check, check_live, check_set, windows};
 use crate::random::{self, Random};
-use crate::slips::{met_exactly, refuted};
+use crate::slips::{met_exactly, met_late, refuted};
 use crate::state::words;
 use crate::worst::{Worst, worst_wait};
 use std::fmt::Debug;
@@ -57,8 +57,20 @@ impl<'a, E: Engine> List<'a, E> {
         tally.memory(Call { name: "offer_set", with: &(flows, &self.file) }, &lent);
     }
 
-    /// A step that is lent so many words for its deliveries.
+    /// A step that is lent so many words for its deliveries, which are then fed to the flows' records.
     pub fn step(&mut self, tally: &mut Tally, random: &mut Random, room: usize) {
+        if let Some((delivery, exits)) = self.unkept_step(tally, random, room) {
+            self.kept.feed(self.host, tally, random, &mut self.state, delivery, exits);
+        }
+    }
+
+    /// A step alone. Gives its deliveries and the count of exits, if it is accepted.
+    fn unkept_step(
+        &mut self,
+        tally: &mut Tally,
+        random: &mut Random,
+        room: usize,
+    ) -> Option<(Twin<u32>, u64)> {
         let mut delivery = Twin::noise_words(random, room);
         let exits = self.book.step(room);
         let expected = exits.as_ref().map(|exits| exits.len() as u64).map_err(|no| *no);
@@ -71,9 +83,7 @@ impl<'a, E: Engine> List<'a, E> {
         self.compare(tally, "step", &room, expected, got);
         let with = &("deliveries", self.book.clock, &self.file);
         tally.memory(Call { name: "step", with }, &delivery);
-        if let Ok(exits) = expected {
-            self.kept.feed(self.host, tally, random, &mut self.state, delivery, exits);
-        }
+        expected.ok().map(|exits| (delivery, exits))
     }
 
     fn compare(
@@ -103,10 +113,10 @@ impl<'a, E: Engine> List<'a, E> {
         match random.from(0, 5) {
             0 if short => engine::offer(self.host, tally, &mut self.state, 0),
             1 if short => drop(engine::step(self.host, tally, random, &mut self.state, 1280)),
-            2 if short => engine::reset(self.host, tally, &self.file, &mut self.state),
+            2 if short => drop(engine::reset(self.host, tally, &self.file, &mut self.state)),
             2 => {
                 let cut = &self.file[..random.index(self.file.len())];
-                engine::reset(self.host, tally, cut, &mut self.state)
+                engine::reset(self.host, tally, cut, &mut self.state);
             }
             3 if short => {
                 let flows = self.book.plan.flows.len();
@@ -120,7 +130,7 @@ impl<'a, E: Engine> List<'a, E> {
                 let notes = random.bytes(9);
                 let length = notes.len() + 8 * self.book.plan.flows.len() + 12;
                 let room = length + 3 - random.index(5);
-                engine::write(self.host, tally, random, &mut self.state, &notes, room)
+                engine::write(self.host, tally, random, &mut self.state, &notes, room);
             }
         }
         self.state.lent = whole;
@@ -247,4 +257,16 @@ pub fn worst_lists(host: &impl Engine, tally: &mut Tally, random: &mut Random) {
             list.end();
         }
     }
+}
+
+/// The list that meets the bound of a slow flow. It takes two of its periods, so nothing is kept of
+/// its flights.
+pub fn slow_list(host: &impl Engine, tally: &mut Tally, random: &mut Random) {
+    let (plan, Worst { offers, .. }) = met_late();
+    let mut list = List::new(host, tally, random, plan);
+    for flows in offers {
+        flows.into_iter().for_each(|flow| list.offer(tally, flow));
+        list.unkept_step(tally, random, 10);
+    }
+    list.end();
 }

@@ -7,6 +7,7 @@ pub mod engine;
 pub mod listing;
 pub mod lists;
 pub mod parts;
+pub mod periods;
 pub mod plans;
 pub mod recent;
 pub mod sets;

@@ -1,7 +1,7 @@
 //! The parts of the comparison: fixed boundaries first, then rounds. Each round has a seed of its
 //! own, the last one's + 1, which gives the torus too, so that 256 rounds go through all sizes.
 
-use super::{Tally, bounds, engine, lists, recent, sets, states};
+use super::{Tally, bounds, engine, lists, periods, recent, sets, states};
 use crate::host::{Bounds, Engine};
 use crate::random::{Random, plan};
 use std::time::{Duration, Instant};
@@ -30,8 +30,10 @@ pub fn bounds(host: &impl Bounds, seed: u64, extent: Extent) -> Tally {
 pub fn engine(host: &impl Engine, seed: u64, extent: Extent) -> Tally {
     let mut tally = Tally::new(seed);
     let mut random = Random::new(seed);
+    periods::slow_states(host, &mut tally, &mut random);
     recent::boundaries(host, &mut tally, &mut random);
     states::boundaries(host, &mut tally, &mut random);
+    periods::round_trips(host, &mut tally, &mut random);
     sets::boundaries(host, &mut tally, &mut random);
     rounds("engine", &mut tally, extent, |tally, random, sx, sy| {
         lists::round(host, tally, random, sx, sy);
@@ -40,6 +42,7 @@ pub fn engine(host: &impl Engine, seed: u64, extent: Extent) -> Tally {
         sets::round(host, tally, random, sx, sy);
     });
     lists::worst_lists(host, &mut tally, &mut random);
+    lists::slow_list(host, &mut tally, &mut random);
     lists::full_queue(host, &mut tally, &mut random);
     lists::full_queues_by_sets(host, &mut tally, &mut random);
     for (size, flows) in [(4, 16), (8, 64), (16, 256)] {

@@ -1,17 +1,19 @@
 //! Plan files at the boundary of each refusal, and damaged ones.
 
-use crate::plan::{Flow, MOST_BYTES, Plan};
+use super::periods;
+use crate::plan::{Flow, MOST_BYTES, MOST_PERIOD, Plan};
 use crate::random::Random;
 
 /// Files on both sides of the refusals 1 to 7, with one fault and with two at once.
 pub fn at_boundaries() -> Vec<Vec<u8>> {
-    let mut files = changed(&base(), &[0, 1, 2, 3, 4, 5, 15, 16, 17, 254, 255]);
+    let mut files: Vec<_> = late_windows().iter().map(|plan| plan.file(&[])).collect();
+    files.extend(periods::files());
+    files.extend(changed(&base(), &[0, 1, 2, 3, 4, 5, 15, 16, 17, 254, 255]));
     for file in changed(&base(), &[0, 17]) {
         files.extend(changed(&file, &[0, 17]));
     }
     files.extend(lengths());
     files.extend([1, 2, 3].map(wrapped_start));
-    files.extend([LAST_WINDOW, PAST_THE_LAST].map(|numbers| late_window(numbers).file(&[])));
     files
 }
 
@@ -20,13 +22,24 @@ pub fn at_boundaries() -> Vec<Vec<u8>> {
 pub const LAST_WINDOW: (i64, i64) = (2, 247);
 pub const PAST_THE_LAST: (i64, i64) = (1, 248);
 
-/// Flow 0 has eight rivals with periods 2, 4 to 256: all with this spread, the first with this
-/// burst and the others with 1.
-pub fn late_window((spread, burst): (i64, i64)) -> Plan {
+/// Flow 0 has the longest period. Its rivals all have this spread: eight with periods 2, 4 to 256, and
+/// slow ones with these periods. The first has this burst, less 2 for each slow one, which adds so much
+/// to I(t) until its period is over; the others have burst 1.
+pub fn late_window((spread, burst): (i64, i64), slow: &[i64]) -> Plan {
     let flow = |ys, period, burst| Flow::from_numbers([0, ys, 0, spread, period, burst]);
-    let mut flows = vec![flow(spread, 1, 1), flow(0, 2, burst)];
+    let mut flows = vec![flow(spread, MOST_PERIOD, 1)];
+    flows.push(flow(0, 2, burst - 2 * slow.len() as i64));
     flows.extend((2..=8).map(|power| flow(0, 1 << power, 1)));
+    flows.extend(slow.iter().map(|&period| flow(0, period, 1)));
     Plan { sx: 1, sy: spread + 1, flows }
+}
+
+/// Windows about the last, without slow rivals and with them. A period of 65,535 is over in the last
+/// window, which is none then.
+pub fn late_windows() -> Vec<Plan> {
+    let slow = [&[][..], &[65_535], &[65_536], &[65_536, 65_537, MOST_PERIOD]];
+    let late = |slow| [LAST_WINDOW, PAST_THE_LAST].map(|numbers| late_window(numbers, slow));
+    slow.into_iter().flat_map(late).collect()
 }
 
 /// Three flows on a 5 by 3 torus, with notes.

@@ -4,7 +4,7 @@ use super::recent::{self, Kept};
 use super::{Tally, Twin, engine, plans, sets};
 use crate::book::{Book, Side};
 use crate::host::Engine;
-use crate::plan::{Flow, MOST_BYTES, Plan};
+use crate::plan::{Flow, MOST_BYTES, MOST_PERIOD, Plan};
 use crate::random::{self, Random};
 use crate::state::{HEADER, PER_FLOW, PER_REGISTER, places, register_at, words};
 
@@ -30,14 +30,19 @@ pub fn boundaries(host: &impl Engine, tally: &mut Tally, random: &mut Random) {
 }
 
 /// A 3 by 3 torus on which packets stand in W of their own row, in W after a deflection and in N,
-/// with full and empty buckets and waiting packets.
+/// with full and empty buckets, waiting packets and a slow flow.
 fn small_state() -> Vec<u32> {
-    let flows =
-        [[0, 0, 1, 2, 4, 2], [0, 2, 1, 2, 3, 1], [0, 1, 1, 1, 3, 2], [2, 2, 1, 2, 65_535, 255]];
+    let flows = [
+        [0, 0, 1, 2, 4, 2],
+        [0, 2, 1, 2, 3, 1],
+        [0, 1, 1, 1, 3, 2],
+        [2, 2, 1, 2, 65_535, 255],
+        [2, 0, 2, 0, MOST_PERIOD, 1],
+    ];
     let flows = flows.map(Flow::from_numbers).to_vec();
     let mut book = Book::new(Plan { sx: 3, sy: 3, flows });
     for cycle in 0..6 {
-        for flow in 0..4 {
+        for flow in 0..5 {
             if (cycle + flow) % 3 != 0 {
                 book.offer(flow).unwrap();
             }
@@ -50,13 +55,15 @@ fn small_state() -> Vec<u32> {
 fn telling_values(word: u32) -> Vec<u32> {
     let near =
         [word.wrapping_sub(1), word.wrapping_add(1), word.wrapping_sub(3), word.wrapping_add(3)];
-    let ends = [0, 1, 2, 3, 4, 5, 6, 16, 17, 255, 256, 257, 65_534, 65_535, 65_536, 1 << 31];
-    near.into_iter().chain(ends).chain([u32::MAX - 1, u32::MAX]).collect()
+    let small = [0, 1, 2, 3, 4, 5, 6, 16, 17, 255, 256, 257, 65_534, 65_535, 65_536];
+    let past = MOST_PERIOD as u32 + 1;
+    let large = [past - 2, past - 1, past, past + 1, 1 << 31, u32::MAX - 1, u32::MAX];
+    [&near[..], &small, &large].concat()
 }
 
 /// Offer, a set of offers, step, recent flights and write, each on its own copy of the words, with
 /// some noise past them.
-fn five_calls(host: &impl Engine, tally: &mut Tally, random: &mut Random, state: &[u32]) {
+pub fn five_calls(host: &impl Engine, tally: &mut Tally, random: &mut Random, state: &[u32]) {
     let past = random.index(5);
     calls_with_past(host, tally, random, state, past);
 }
@@ -176,7 +183,8 @@ fn flow_at_its_ends(random: &mut Random, plan: &Plan, state: &mut [u32]) {
     let at = HEADER + PER_FLOW * random.index(plan.flows.len());
     let past =
         |random: &mut Random, end: u32| if random.percent(15) { end.wrapping_add(1) } else { end };
-    let period: u32 = random.pick(&[0, 1, 2, 65_535, 65_536]);
+    let most = MOST_PERIOD as u32;
+    let period: u32 = random.pick(&[0, 1, 2, 65_535, 65_536, most, most + 1]);
     let burst = random.pick(&[0, 1, 2, 255, 256]);
     let tokens = random.pick(&[0, burst]);
     let count = if random.percent(50) { 0 } else { period.wrapping_sub(1) };
