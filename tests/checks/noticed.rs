@@ -6,6 +6,7 @@ mod faults {
     pub mod engine;
     pub mod listing;
     pub mod recent;
+    pub mod records;
     pub mod sets;
 }
 
@@ -20,11 +21,25 @@ use std::process::Command;
 type Planted<'a> = (String, Box<dyn Fn() + 'a>);
 
 fn in_the_engine() -> Vec<Planted<'static>> {
-    let planted = |(name, fault): &(&str, faults::engine::Fault)| -> Planted<'static> {
-        let host = faults::engine::Faulty(*fault);
-        (name.to_string(), Box::new(move || drop(parts::engine(&host, 1, Extent::Gate))))
+    use faults::engine::{FAULTS, Faulty, JUDGED, JUDGES};
+    let mut planted: Vec<Planted> = Vec::new();
+    let mut plant = |name: String, host: Faulty| {
+        planted.push((name, Box::new(move || drop(parts::engine(&host, 1, Extent::Gate)))));
     };
-    faults::engine::FAULTS.iter().map(planted).collect()
+    for (name, fault) in FAULTS {
+        plant(name.to_string(), Faulty::new(*fault));
+    }
+    for (name, misread) in faults::records::FAULTS {
+        let host = Faulty { misread: *misread, ..Faulty::new(|_| ()) };
+        plant(format!("a reset with {name}"), host);
+    }
+    for (name, fault) in JUDGED {
+        for calls in JUDGES.chunks(1) {
+            let host = Faulty { calls, ..Faulty::new(*fault) };
+            plant(format!("{} with {name}", calls[0]), host);
+        }
+    }
+    planted
 }
 
 fn in_recent_flights() -> Vec<Planted<'static>> {
@@ -53,6 +68,12 @@ fn in_the_bounds() -> Vec<Planted<'static>> {
         let compared = || drop(parts::bounds(&faults::bounds::Untold(*told), 1, Extent::Gate));
         planted.push((name.to_string(), Box::new(compared)));
     }
+    for (name, misread) in faults::records::FAULTS {
+        let fault = faults::bounds::misread_by(*misread);
+        let compared =
+            move || drop(parts::bounds(&faults::bounds::Faulty(&fault), 1, Extent::Gate));
+        planted.push((format!("bounds with {name}"), Box::new(compared)));
+    }
     for row in refuted() {
         let fault = faults::bounds::slipped(row.slip);
         let compared =
@@ -68,6 +89,13 @@ fn in_the_listing() -> Vec<Planted<'static>> {
         let print = |file: &[u8]| fault(file, &second::window::listing(file)).into_bytes();
         let compared = move || drop(listing::run(print, 1, Extent::Gate));
         planted.push((name.to_string(), Box::new(compared)));
+    }
+    for (name, misread) in faults::records::FAULTS {
+        let print = |file: &[u8]| {
+            second::window::listing(&faults::records::misread(file, *misread)).into_bytes()
+        };
+        let compared = move || drop(listing::run(print, 1, Extent::Gate));
+        planted.push((format!("a listing with {name}"), Box::new(compared)));
     }
     for row in refuted() {
         let rule = move |plan: &_, f| row.slip.window(plan, f);

@@ -1,10 +1,11 @@
 //! Faults of the window, the flight bound and the notes.
 
+use super::records::{Misread, misread};
 use second::calls;
 use second::host::{Bounds, returned, returned_window};
 use second::plan::{Flow, MOST_BYTES, Plan, read};
 use second::slips::Slip;
-use second::window::{Rival, flight_call, least, rivals, window_call};
+use second::window::{Rival, flight_call, interference, least, rivals, window_call};
 
 /// What a call gave, for a fault to change: its answer, as 64-bit answers are, and what it is of.
 pub struct Given<'a> {
@@ -67,6 +68,18 @@ pub fn slipped(slip: Slip) -> impl Fn(&mut Given) {
     }
 }
 
+/// Every call on a file whose records are read in this way.
+pub fn misread_by(change: Misread) -> impl Fn(&mut Given) {
+    move |given| {
+        let file = &misread(given.file, change);
+        given.answer = returned(match given.call {
+            "window" => window_call(file, given.flow),
+            "flight" => flight_call(file, given.flow),
+            _ => calls::notes(file),
+        });
+    }
+}
+
 /// T of a flow with other shares of its rivals in I(t).
 fn shared(given: &mut Given, share: fn(&Rival, u32) -> u32) {
     if let ("window", Some((plan, f))) = (given.call, given.accepted()) {
@@ -74,6 +87,12 @@ fn shared(given: &mut Given, share: fn(&Rival, u32) -> u32) {
         let t = least(|t| rivals.iter().map(|rival| share(rival, t)).sum::<u32>() < t);
         given.answer = t.map_or(14 << 32 | f as u64, |t| t as u64);
     }
+}
+
+/// What a search for T finds that goes on behind 65,535.
+pub fn past_the_last(plan: &Plan, f: usize) -> Option<i64> {
+    let rivals = rivals(plan, f);
+    (65_536..66_000).find(|&t| interference(&rivals, t) < t).map(i64::from)
 }
 
 /// The flight bound with other offsets.
@@ -142,6 +161,13 @@ pub const FAULTS: &[(&str, fn(&mut Given))] = &[
     }),
     ("no window answered as 65,535", |given| {
         given.answer = if given.answer >> 32 == 14 { 65_535 } else { given.answer }
+    }),
+    ("a search past the last window", |given| {
+        if given.answer >> 32 == 14 {
+            let (plan, _) = read(given.file).unwrap();
+            let t = past_the_last(&plan, given.flow as usize);
+            given.answer = t.map_or(given.answer, |t| t as u64);
+        }
     }),
     ("the last window not found", |given| {
         if given.call == "window" && given.answer == 65_535 {

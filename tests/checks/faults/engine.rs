@@ -1,8 +1,10 @@
-//! Faults of reset, offer, step and write.
+//! Faults of reset, offer, step and write, and of every call that judges the words of a state.
 
+use super::records::{Misread, misread};
 use second::calls;
 use second::host::{Engine, returned};
 use second::recent::Record;
+use second::state::{HEADER, PER_FLOW, judge};
 
 /// What a call gave, for a fault to change: its answer, the state, the deliveries of a step and
 /// the target of writing.
@@ -23,11 +25,44 @@ impl Given<'_> {
         self.call == "step" && self.accepted()
     }
 
-    /// The words of the flows whose buckets are full: P, σ, tokens and count.
+    /// The buckets of a state's flows: P, σ, tokens and count.
+    fn buckets(&mut self) -> impl Iterator<Item = &mut [u32]> {
+        buckets(self.state)
+    }
+
     fn full_buckets(&mut self) -> impl Iterator<Item = &mut [u32]> {
-        let flows = self.state[2] as usize;
-        let words = self.state[8..].chunks_mut(10).take(flows).map(|flow| &mut flow[4..8]);
-        words.filter(|bucket| bucket[2] == bucket[1])
+        self.buckets().filter(|bucket| bucket[2] == bucket[1])
+    }
+
+    /// A token too early: where this holds of a bucket after a step.
+    fn token_at(&mut self, is_over: fn(&[u32]) -> bool) {
+        if self.stepped() {
+            for bucket in self.buckets().filter(|bucket| is_over(bucket)) {
+                bucket[2] = bucket[1].min(bucket[2] + 1);
+                bucket[3] = 0;
+            }
+        }
+    }
+
+    /// The records that writing has put into the target.
+    fn records(&mut self) -> impl Iterator<Item = &mut [u8]> {
+        let mut written = 0..0;
+        if self.call == "write" && self.accepted() {
+            let end = self.answer as usize - 12;
+            written = end - 8 * self.state[2] as usize..end;
+        }
+        self.target[written].chunks_mut(8)
+    }
+
+    /// The answer to words that are judged with other buckets.
+    fn judged(&mut self, change: fn(&mut [u32])) {
+        let mut words = self.state.to_vec();
+        buckets(&mut words).for_each(change);
+        match judge(&words) {
+            Ok(_) if self.answer == 9 << 32 => self.answer = 0,
+            Err(no) if self.accepted() => self.answer = no.number << 32,
+            _ => {}
+        }
     }
 
     fn state_words(&self) -> usize {
@@ -36,19 +71,40 @@ impl Given<'_> {
     }
 }
 
+/// P, σ, tokens and count of the flows that the words say there are.
+fn buckets(words: &mut [u32]) -> impl Iterator<Item = &mut [u32]> {
+    let flows = words.get(2).map_or(0, |&flows| flows as usize);
+    let words = words.get_mut(HEADER..).unwrap_or_default().chunks_exact_mut(PER_FLOW);
+    words.take(flows).map(|flow| &mut flow[4..8])
+}
+
 /// The second simulator with a fault.
-pub struct Faulty(pub Fault);
+pub struct Faulty {
+    /// How each record of a plan file is read.
+    pub misread: Misread,
+    /// What is changed of a call's outcome.
+    pub fault: Fault,
+    /// The calls that have the fault.
+    pub calls: &'static [&'static str],
+}
 
 impl Faulty {
+    /// With this fault in 01's calls, and records read as they should be.
+    pub fn new(fault: Fault) -> Faulty {
+        Faulty { misread: |_| (), fault, calls: &["reset", "offer", "step", "write"] }
+    }
+
     fn give(&self, mut given: Given) -> u64 {
-        self.0(&mut given);
+        if self.calls.contains(&given.call) {
+            (self.fault)(&mut given);
+        }
         given.answer
     }
 }
 
 impl Engine for Faulty {
     fn reset(&self, file: &[u8], state: &mut [u32]) -> u64 {
-        let answer = returned(calls::reset(file, state));
+        let answer = returned(calls::reset(&misread(file, self.misread), state));
         self.give(Given { call: "reset", answer, state, delivery: &mut [], target: &mut [] })
     }
 
@@ -58,7 +114,8 @@ impl Engine for Faulty {
     }
 
     fn offer_set(&self, state: &mut [u32], flows: &[u32]) -> u64 {
-        returned(calls::offer_set(state, flows))
+        let answer = returned(calls::offer_set(state, flows));
+        self.give(Given { call: "offer_set", answer, state, delivery: &mut [], target: &mut [] })
     }
 
     fn step(&self, state: &mut [u32], delivery: &mut [u32]) -> u64 {
@@ -67,7 +124,9 @@ impl Engine for Faulty {
     }
 
     fn recent(&self, state: &[u32], deliveries: &[u32], records: &mut [Record], last: u32) -> u64 {
-        returned(calls::recent(state, deliveries, records, last))
+        let answer = returned(calls::recent(state, deliveries, records, last));
+        let state = &mut state.to_vec();
+        self.give(Given { call: "recent", answer, state, delivery: &mut [], target: &mut [] })
     }
 
     fn write(&self, state: &[u32], notes: &[u8], target: &mut [u8]) -> u64 {
@@ -150,5 +209,41 @@ pub const FAULTS: &[(&str, Fault)] = &[
         if let Some(byte) = given.target.get_mut(given.answer as usize) {
             *byte ^= 1;
         }
+    }),
+    ("the top byte of P not written", |given| given.records().for_each(|record| record[7] = 0)),
+    ("P's bytes written in a row", |given| given.records().for_each(|record| record.swap(6, 7))),
+    ("the top byte of P written for its middle one", |given| {
+        given.records().for_each(|record| record[5] = record[7])
+    }),
+    ("a count of two bytes", |given| {
+        if given.stepped() {
+            given.buckets().for_each(|bucket| bucket[3] &= 0xFFFF);
+        }
+    }),
+    ("a token after the low two bytes of P", |given| {
+        given.token_at(|bucket| bucket[3] > 0 && bucket[3] == bucket[0] & 0xFFFF)
+    }),
+    ("a token after 65,535 cycles of a longer period", |given| {
+        given.token_at(|bucket| bucket[0] > 65_535 && bucket[3] == 65_535)
+    }),
+];
+
+/// The calls that judge the words of a state.
+pub const JUDGES: &[&str] = &["offer", "offer_set", "step", "recent", "write"];
+
+/// Faults that each of them may have: a bucket judged as though it were another.
+pub const JUDGED: &[(&str, Fault)] = &[
+    ("a period of 2^24 taken", |given| {
+        given.judged(|bucket| bucket[0] -= (bucket[0] == 1 << 24) as u32)
+    }),
+    ("a period judged by its low three bytes", |given| {
+        given.judged(|bucket| bucket[0] &= 0xFF_FFFF)
+    }),
+    ("a period judged by its low two bytes", |given| given.judged(|bucket| bucket[0] &= 0xFFFF)),
+    ("a period over 65,535 refused", |given| {
+        given.judged(|bucket| bucket[0] = if bucket[0] > 65_535 { 0 } else { bucket[0] })
+    }),
+    ("a count over 65,535 refused", |given| {
+        given.judged(|bucket| bucket[0] = if bucket[3] > 65_535 { 0 } else { bucket[0] })
     }),
 ];

@@ -1,7 +1,8 @@
 //! Faults of the listing, as what it prints in place of the right text for a file.
 
+use super::bounds::past_the_last;
 use second::plan::MOST_BYTES;
-use second::window::listing;
+use second::window::{listing, listing_by, window};
 
 /// What a faulty listing prints for a file whose right listing is this text.
 pub type Fault = fn(&[u8], &str) -> String;
@@ -30,12 +31,18 @@ pub const FAULTS: &[(&str, Fault)] = &[
     ("a flight bound of exit - entry", |_, text| {
         of_each_line(text, |fields| fields[3] = (number(&fields[3]) - 2).to_string())
     }),
-    ("a wait one cycle short", |_, text| {
-        of_each_line(text, |fields| {
-            if fields[4] != "-" {
-                fields[4] = (number(&fields[4]) - 1).to_string();
-            }
-        })
+    ("a wait one cycle short", |_, text| of_each_wait(text, |wait| (number(wait) - 1).to_string())),
+    ("a wait of two bytes", |_, text| {
+        of_each_wait(text, |wait| (number(wait) % 65_536).to_string())
+    }),
+    ("a wait's first six digits", |_, text| {
+        of_each_wait(text, |wait| wait[..wait.len().min(6)].to_string())
+    }),
+    ("a wait's last six digits", |_, text| {
+        of_each_wait(text, |wait| (number(wait) % 1_000_000).to_string())
+    }),
+    ("a search past the last window", |file, _| {
+        listing_by(file, |plan, f| window(plan, f).or_else(|| past_the_last(plan, f)))
     }),
     ("two spaces between fields", |_, text| text.replace(' ', "  ")),
     ("no newline at the end", |_, text| text.trim_end().into()),
@@ -58,6 +65,15 @@ fn is_refused(text: &str) -> bool {
 
 fn number(field: &str) -> i64 {
     field.parse().unwrap()
+}
+
+/// Changes the wait of each flow that has one.
+fn of_each_wait(text: &str, change: impl Fn(&str) -> String) -> String {
+    of_each_line(text, |fields| {
+        if fields[4] != "-" {
+            fields[4] = change(&fields[4]);
+        }
+    })
 }
 
 /// Changes the five fields of each flow's line.
