@@ -11,17 +11,29 @@ const BATCH: usize = 50;
 /// The entries of a long list. A batch of them fits into the queues, as every flow comes in turn.
 const LONG: usize = 4096;
 
-fn cases(loads: &[Load]) -> Vec<Case> {
-    SIZES
-        .iter()
-        .flat_map(|&(size, flows)| loads.iter().map(move |&load| case(size, flows, load)))
-        .collect()
+/// The cases of these loads whose plans both sides take.
+fn cases(loads: &[Load], taken: impl Fn(&Case) -> bool) -> Vec<Case> {
+    let mut cases = Vec::new();
+    for (size, flows) in SIZES {
+        for &load in loads {
+            let case = case(size, flows, load);
+            if taken(&case) {
+                cases.push(case);
+            } else {
+                let load = load.name();
+                println!("{load} {size}x{size}: not timed, one of the two refuses its plan");
+            }
+        }
+    }
+    cases
 }
 
 /// Window of each flow, and the bounds of the whole listing.
 pub fn bounds(sides: Sides, first: &impl Bounds, second: &impl Bounds) {
+    let taken =
+        |case: &Case| sides.both(|| first.notes(&case.file) == 0, || second.notes(&case.file) == 0);
     sides.print_header();
-    for case in cases(&[Load::Light, Load::Climbing, Load::Saturated]) {
+    for case in cases(&[Load::Light, Load::Slow, Load::Climbing, Load::Saturated], taken) {
         let flows = case.flows;
         print_row(
             "window",
@@ -51,8 +63,9 @@ fn all_bounds(host: &impl Bounds, case: &Case) {
 
 /// Step, offer, sets of offers, recent flights, reset and write: the calls that both sides have.
 pub fn engine(sides: Sides, first: &impl Engine, second: &impl Engine) {
+    let taken = |case: &Case| sides.both(|| is_reset(first, case), || is_reset(second, case));
     sides.print_header();
-    for case in cases(&[Load::Light, Load::Saturated]) {
+    for case in cases(&[Load::Light, Load::Slow, Load::Saturated], taken) {
         let state = case.state();
         print_row(
             "step",
@@ -101,6 +114,11 @@ pub fn engine(sides: Sides, first: &impl Engine, second: &impl Engine) {
             sides.alternate(BATCH, writes(first, &case, &state), writes(second, &case, &state)),
         );
     }
+}
+
+/// Does the engine take the plan?
+fn is_reset(host: &impl Engine, case: &Case) -> bool {
+    host.reset(&case.file, &mut vec![0; case.words()]) == 0
 }
 
 /// Steps in a row. Each turn starts from the same state.

@@ -42,7 +42,7 @@ pub fn time(program: &str) {
     let this = std::env::current_exe().unwrap();
     PLAIN_AND_ARCHIVE.print_header();
     for (size, flows) in SIZES {
-        for load in [Load::Light, Load::Climbing, Load::Saturated] {
+        for load in [Load::Light, Load::Slow, Load::Climbing, Load::Saturated] {
             let case = case(size, flows, load);
             let plain = || run(Command::new(&this).arg("plain-listing"), &case.file);
             let proved = || run(&mut Command::new(program), &case.file);

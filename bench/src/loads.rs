@@ -1,8 +1,9 @@
-//! The plans and states that are timed: three sizes, each lightly and fully loaded.
+//! The plans and states that are timed: three sizes, each lightly and fully loaded, and with slow
+//! flows.
 
 use crate::plain::Plain;
 use second::host::Engine;
-use second::plan::{Flow, Plan};
+use second::plan::{Flow, MOST_PERIOD, Plan};
 use second::random::Random;
 
 /// How much traffic a plan asks for.
@@ -10,10 +11,19 @@ use second::random::Random;
 pub enum Load {
     /// Flows all over the torus that send seldom.
     Light,
+    /// As light, but every other flow is for housekeeping, with a period over 65,535.
+    Slow,
     /// Flows of one client that nearly fill it: windows near 65,535, found by many small leaps.
     Climbing,
     /// Flows all over the torus that send whenever they can.
     Saturated,
+}
+
+impl Load {
+    /// Its name in a row.
+    pub fn name(self) -> String {
+        format!("{self:?}").to_lowercase()
+    }
 }
 
 /// Sizes of the torus, and flows.
@@ -34,7 +44,11 @@ pub fn case(size: i64, flows: usize, load: Load) -> Case {
         let (xs, ys) = (f % size, f / size);
         let (xd, yd) = (random.from(0, size - 1), random.from(0, size - 1));
         match load {
-            Load::Light => Flow { xs, ys, xd, yd, period: 10 * count, burst: 1 },
+            Load::Slow if f % 2 == 1 => {
+                let period = random.from(65_536, MOST_PERIOD);
+                Flow { xs, ys, xd, yd, period, burst: 4 }
+            }
+            Load::Light | Load::Slow => Flow { xs, ys, xd, yd, period: 10 * count, burst: 1 },
             Load::Saturated => Flow { xs, ys, xd, yd, period: 1, burst: 2 },
             Load::Climbing => {
                 Flow { xs: 0, ys: 0, xd, yd, period: count, burst: climbing_burst(count) }

@@ -33,6 +33,14 @@ impl Sides<'_> {
         !self.lacking.contains(&function)
     }
 
+    /// Do both say so?
+    pub fn both(self, first: impl Fn() -> bool, second: impl Fn() -> bool) -> bool {
+        (self.before_turn)(0);
+        let said = first();
+        (self.before_turn)(1);
+        said && second()
+    }
+
     /// The times of two works. Each does a batch of so many calls.
     pub fn alternate(
         self,
@@ -84,7 +92,7 @@ pub fn print_row(call: &str, case: &Case, times: Times) {
     let Case { size, flows, load, .. } = case;
     let Times { first, second, ratio } = times;
     let torus = format!("{size}x{size}");
-    let load = format!("{load:?}").to_lowercase();
+    let load = load.name();
     let share = second / (case.routers() + flows) as f64;
     println!(
         "{call:8} {torus:6} {flows:5}  {load:9} {first:10.0}  {second:10.0}  {ratio:5.2}  {share:10.2}"
