@@ -33,8 +33,8 @@ pub fn engine(host: &impl Engine, seed: u64, extent: Extent) -> Tally {
     periods::slow_states(host, &mut tally, &mut random);
     recent::boundaries(host, &mut tally, &mut random);
     states::boundaries(host, &mut tally, &mut random);
-    periods::round_trips(host, &mut tally, &mut random);
     sets::boundaries(host, &mut tally, &mut random);
+    periods::round_trips(host, &mut tally, &mut random);
     rounds("engine", &mut tally, extent, |tally, random, sx, sy| {
         lists::round(host, tally, random, sx, sy);
         states::round(host, tally, random, sx, sy);

@@ -4,11 +4,12 @@ use super::recent::{self, Kept};
 use super::{Tally, Twin, engine, plans, sets};
 use crate::book::{Book, Side};
 use crate::host::Engine;
+use crate::offers::MOST_WAITING;
 use crate::plan::{Flow, MOST_BYTES, MOST_PERIOD, Plan};
 use crate::random::{self, Random};
 use crate::state::{HEADER, PER_FLOW, PER_REGISTER, places, register_at, words};
 
-/// Every boundary of reset, and every word of a small state set to each telling value.
+/// Every boundary of reset, every word of a small state set to each telling value, and a full queue.
 pub fn boundaries(host: &impl Engine, tally: &mut Tally, random: &mut Random) {
     for file in plans::at_boundaries() {
         let length = random.pick(&[0, 7, 8, 157, 158, 159, 5000]);
@@ -27,6 +28,15 @@ pub fn boundaries(host: &impl Engine, tally: &mut Tally, random: &mut Random) {
         }
     }
     lent_lengths(host, tally, random, &small);
+    full_queue(host, tally, random, small);
+}
+
+/// An offer where one packet more may wait, and one where none may.
+fn full_queue(host: &impl Engine, tally: &mut Tally, random: &mut Random, mut state: Vec<u32>) {
+    for waiting in [MOST_WAITING - 1, MOST_WAITING] {
+        state[HEADER + 9] = waiting as u32;
+        engine::offer(host, tally, &mut Twin::words(random, &state, 0), 0);
+    }
 }
 
 /// A 3 by 3 torus on which packets stand in W of their own row, in W after a deflection and in N,
