@@ -174,6 +174,13 @@ pub const FAULTS: &[(&str, fn(&mut Given))] = &[
             given.answer = 14 << 32;
         }
     }),
+    ("14 by rates of the period's low two bytes", |given| {
+        if let ("window", Some((plan, f))) = (given.call, given.accepted()) {
+            let rate = |rival: &Rival| (1 << 31) / (rival.period % 65_536).max(1) as u64;
+            let filled = rivals(&plan, f).iter().map(rate).sum::<u64>() >= 1 << 31;
+            given.answer = if filled { 14 << 32 | f as u64 } else { given.answer };
+        }
+    }),
     ("notes up to the trailer", |given| {
         if given.call == "notes" && !given.refused() {
             given.answer = given.file.len() as u64 - 12;
