@@ -12,6 +12,7 @@ mod faults {
 
 use second::compare::listing;
 use second::compare::parts::{self, Extent};
+use second::plan::change_records;
 use second::slips::refuted;
 use second::window::listing_by;
 use std::panic::{AssertUnwindSafe, catch_unwind, set_hook, take_hook};
@@ -91,9 +92,8 @@ fn in_the_listing() -> Vec<Planted<'static>> {
         planted.push((name.to_string(), Box::new(compared)));
     }
     for (name, misread) in faults::records::FAULTS {
-        let print = |file: &[u8]| {
-            second::window::listing(&faults::records::misread(file, *misread)).into_bytes()
-        };
+        let print =
+            |file: &[u8]| second::window::listing(&change_records(file, *misread)).into_bytes();
         let compared = move || drop(listing::run(print, 1, Extent::Gate));
         planted.push((format!("a listing with {name}"), Box::new(compared)));
     }

@@ -32,6 +32,13 @@ impl Flow {
     pub fn from_numbers([xs, ys, xd, yd, period, burst]: [i64; 6]) -> Flow {
         Flow { xs, ys, xd, yd, period, burst }
     }
+
+    /// Its record. Numbers that don't fit their bytes lose their high part.
+    fn record(&self) -> [u8; RECORD] {
+        let [xs, ys, xd, yd, _, burst] = self.numbers().map(|number| number as u8);
+        let [low, middle, top, ..] = self.period.to_le_bytes();
+        [xs, ys, xd, yd, low, middle, burst, top]
+    }
 }
 
 #[derive(Clone, Copy, Debug, PartialEq, Eq)]
@@ -77,20 +84,32 @@ impl Plan {
         8 + 10 * self.flows.len() + 8 * self.routers()
     }
 
-    /// The plan file with these notes. Numbers that don't fit their bytes lose their high part.
+    /// The plan file with these notes.
     pub fn file(&self, notes: &[u8]) -> Vec<u8> {
-        let mut file = notes.to_vec();
-        for flow in &self.flows {
-            let [xs, ys, xd, yd, period, burst] = flow.numbers();
-            let [low, middle, top, ..] = period.to_le_bytes();
-            file.extend([xs as u8, ys as u8, xd as u8, yd as u8, low, middle, burst as u8, top]);
-        }
-        file.extend((notes.len() as u32).to_le_bytes());
-        file.extend((self.flows.len() as u16).to_le_bytes());
-        file.extend([self.sx as u8, self.sy as u8]);
-        file.extend(b"HRTP");
-        file
+        let records: Vec<_> = self.flows.iter().map(Flow::record).collect();
+        file_of(notes, &records, self.sx as u8, self.sy as u8)
     }
+}
+
+/// The plan file with these notes and records.
+pub fn file_of(notes: &[u8], records: &[[u8; RECORD]], sx: u8, sy: u8) -> Vec<u8> {
+    let mut file = [notes, records.as_flattened()].concat();
+    file.extend((notes.len() as u32).to_le_bytes());
+    file.extend((records.len() as u16).to_le_bytes());
+    file.extend([sx, sy]);
+    file.extend(b"HRTP");
+    file
+}
+
+/// The file with each record changed in this way. What has no records stays.
+pub fn change_records(file: &[u8], change: impl Fn(&mut [u8; RECORD])) -> Vec<u8> {
+    let mut file = file.to_vec();
+    if let Some((body, trailer)) = file.split_last_chunk_mut::<TRAILER>()
+        && let Some(records) = body.get_mut(little_endian(&trailer[..4])..)
+    {
+        records.as_chunks_mut().0.iter_mut().for_each(change);
+    }
+    file
 }
 
 fn little_endian(bytes: &[u8]) -> usize {

@@ -39,7 +39,7 @@ trailerOf file =
       sy = getD file (at + 7) 0;
     }
 
--- the period P of the record at a place: two bytes, and the record's last byte as the top byte (02, U5)
+-- the period P of the record at a place; the record's last byte is the top byte of P (02, U5)
 unfoldable pub periodAt : List ℕ → ℕ → ℕ
 periodAt file at = littleEndian2 file (at + 4) + thirdByte * getD file (at + 7) 0
 

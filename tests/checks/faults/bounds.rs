@@ -1,9 +1,9 @@
 //! Faults of the window, the flight bound and the notes.
 
-use super::records::{Misread, misread};
+use super::records::Misread;
 use second::calls;
 use second::host::{Bounds, returned, returned_window};
-use second::plan::{Flow, MOST_BYTES, Plan, read};
+use second::plan::{Flow, MOST_BYTES, Plan, change_records, read};
 use second::slips::Slip;
 use second::window::{Rival, flight_call, interference, least, rivals, window_call};
 
@@ -71,7 +71,7 @@ pub fn slipped(slip: Slip) -> impl Fn(&mut Given) {
 /// Every call on a file whose records are read in this way.
 pub fn misread_by(change: Misread) -> impl Fn(&mut Given) {
     move |given| {
-        let file = &misread(given.file, change);
+        let file = &change_records(given.file, change);
         given.answer = returned(match given.call {
             "window" => window_call(file, given.flow),
             "flight" => flight_call(file, given.flow),

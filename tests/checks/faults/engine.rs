@@ -1,8 +1,9 @@
 //! Faults of reset, offer, step and write, and of every call that judges the words of a state.
 
-use super::records::{Misread, misread};
+use super::records::Misread;
 use second::calls;
 use second::host::{Engine, returned};
+use second::plan::change_records;
 use second::recent::Record;
 use second::state::{HEADER, PER_FLOW, judge};
 
@@ -44,14 +45,12 @@ impl Given<'_> {
         }
     }
 
-    /// The records that writing has put into the target.
-    fn records(&mut self) -> impl Iterator<Item = &mut [u8]> {
-        let mut written = 0..0;
+    /// Changes the records that writing has put into the target.
+    fn rewrite(&mut self, change: Misread) {
         if self.call == "write" && self.accepted() {
-            let end = self.answer as usize - 12;
-            written = end - 8 * self.state[2] as usize..end;
+            let written = &mut self.target[..self.answer as usize];
+            written.copy_from_slice(&change_records(written, change));
         }
-        self.target[written].chunks_mut(8)
     }
 
     /// The answer to words that are judged with other buckets.
@@ -104,7 +103,7 @@ impl Faulty {
 
 impl Engine for Faulty {
     fn reset(&self, file: &[u8], state: &mut [u32]) -> u64 {
-        let answer = returned(calls::reset(&misread(file, self.misread), state));
+        let answer = returned(calls::reset(&change_records(file, self.misread), state));
         self.give(Given { call: "reset", answer, state, delivery: &mut [], target: &mut [] })
     }
 
@@ -210,10 +209,10 @@ pub const FAULTS: &[(&str, Fault)] = &[
             *byte ^= 1;
         }
     }),
-    ("the top byte of P not written", |given| given.records().for_each(|record| record[7] = 0)),
-    ("P's bytes written in a row", |given| given.records().for_each(|record| record.swap(6, 7))),
+    ("the top byte of P not written", |given| given.rewrite(|record| record[7] = 0)),
+    ("P's bytes written in a row", |given| given.rewrite(|record| record.swap(6, 7))),
     ("the top byte of P written for its middle one", |given| {
-        given.records().for_each(|record| record[5] = record[7])
+        given.rewrite(|record| record[5] = record[7])
     }),
     ("a count of two bytes", |given| {
         if given.stepped() {

@@ -3,7 +3,7 @@
 use super::desk::{Fault, number, of_lines, with_bounds};
 use super::files::{with_bytes, with_file};
 use second::desk::program::{Output, Program, write};
-use second::plan::{RECORD, TRAILER};
+use second::plan::{MOST_PERIOD, RECORD, TRAILER, change_records};
 use std::fs;
 
 pub const FAULTS: &[Fault] = &[
@@ -105,7 +105,7 @@ fn with_most(desk: &Program, words: &[&str], input: &[u8], most: i64) -> Output 
     };
     let text = fs::read_to_string(desk.file(name)).unwrap_or_default();
     let period = |line: &str| line.strip_prefix("flow ")?.split(' ').nth(4)?.parse().ok();
-    let is_long = |period: &i64| (most + 1..=16_777_215).contains(period);
+    let is_long = |period: &i64| (most + 1..=MOST_PERIOD).contains(period);
     let mut long = text.lines().map(|line| period(line).filter(is_long)).enumerate();
     match long.find_map(|(at, period)| Some((at + 1, period?))) {
         Some((line, period)) => {
@@ -116,31 +116,23 @@ fn with_most(desk: &Program, words: &[&str], input: &[u8], most: i64) -> Output 
     }
 }
 
-/// The file of a plan without notes, each record changed.
-fn changed(file: &[u8], change: impl Fn(&mut [u8])) -> Vec<u8> {
-    let mut file = file.to_vec();
-    let trailer = file.len() - TRAILER;
-    file[..trailer].chunks_mut(RECORD).for_each(change);
-    file
-}
-
 /// A call that reads the records of a plan as others than they are.
 fn with_records(
     desk: &Program,
     words: &[&str],
     input: &[u8],
     name: &str,
-    change: impl Fn(&mut [u8]),
+    change: fn(&mut [u8; RECORD]),
 ) -> Output {
-    with_bytes(desk, words, input, name, |file| changed(file, &change))
+    with_bytes(desk, words, input, name, |file| change_records(file, change))
 }
 
 /// A call that leaves mode.plan with other records than it should.
-fn written(desk: &Program, words: &[&str], input: &[u8], change: impl Fn(&mut [u8])) -> Output {
+fn written(desk: &Program, words: &[&str], input: &[u8], change: fn(&mut [u8; RECORD])) -> Output {
     let output = desk.answer(words, input);
     if words == ["plan", "mode.txt", "mode.plan"] {
         let path = desk.file("mode.plan");
-        write(&path, &changed(&fs::read(&path).unwrap(), change));
+        write(&path, &change_records(&fs::read(&path).unwrap(), change));
     }
     output
 }

@@ -1,21 +1,10 @@
 //! Faults of a hand that takes a record's bytes for others. The calls are right on what it takes them
 //! for.
 
-/// What a record is taken for: xs, ys, xd, yd, P's low and middle byte, σ and P's top byte.
-pub type Misread = fn(&mut [u8; 8]);
+use second::plan::RECORD;
 
-/// The file with each record changed in this way. What has no records stays.
-pub fn misread(file: &[u8], change: Misread) -> Vec<u8> {
-    let mut file = file.to_vec();
-    let Some((body, trailer)) = file.split_last_chunk_mut::<12>() else {
-        return file;
-    };
-    let start = u32::from_le_bytes(trailer[..4].try_into().unwrap()) as usize;
-    if let Some(records) = body.get_mut(start..) {
-        records.as_chunks_mut().0.iter_mut().for_each(change);
-    }
-    file
-}
+/// What a record is taken for: xs, ys, xd, yd, P's low and middle byte, σ and P's top byte.
+pub type Misread = fn(&mut [u8; RECORD]);
 
 pub const FAULTS: &[(&str, Misread)] = &[
     ("the top byte of P taken as its low one", |record| {
@@ -52,6 +41,6 @@ pub const FAULTS: &[(&str, Misread)] = &[
 ];
 
 /// Writes P's three bytes, low to top.
-fn period(record: &mut [u8; 8], bytes: [u8; 3]) {
+fn period(record: &mut [u8; RECORD], bytes: [u8; 3]) {
     [record[4], record[5], record[7]] = bytes;
 }

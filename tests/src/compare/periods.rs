@@ -4,7 +4,7 @@
 use super::{Tally, Twin, engine, states};
 use crate::book::Book;
 use crate::host::Engine;
-use crate::plan::{Flow, MOST_PERIOD, Plan};
+use crate::plan::{Flow, MOST_PERIOD, Plan, file_of};
 use crate::random::{LONG_PERIODS, Random};
 use crate::state::words;
 
@@ -46,11 +46,7 @@ fn triples<T: Copy, const N: usize>(values: [T; N]) -> impl Iterator<Item = (T, 
 
 /// The file of these records on a 5 by 3 torus, without notes.
 pub fn file(records: &[[u8; 8]]) -> Vec<u8> {
-    let [count, more, ..] = records.len().to_le_bytes();
-    let mut file = records.concat();
-    file.extend([0, 0, 0, 0, count, more, 5, 3]);
-    file.extend(b"HRTP");
-    file
+    file_of(&[], records, 5, 3)
 }
 
 /// Flow 0 has the longest period; its rivals, of the same client, have these periods and this burst.

@@ -6,7 +6,7 @@ use super::expected::Options;
 use super::program::{Program, same_lines, write};
 use super::streams::{Stream, compare};
 use crate::compare::Tally;
-use crate::plan::{Flow, Plan};
+use crate::plan::{Flow, MOST_PERIOD, Plan, file_of};
 use std::fs;
 
 /// Periods, and each one's low, middle and top byte.
@@ -30,8 +30,7 @@ fn record([low, middle, top]: [u8; 3], burst: u8) -> [u8; 8] {
 
 /// The plan file of these records on 4 by 3.
 fn file(records: &[[u8; 8]]) -> Vec<u8> {
-    let trailer = [0, 0, 0, 0, records.len() as u8, 0, 4, 3];
-    [&records.concat()[..], &trailer, b"HRTP"].concat()
+    file_of(&[], records, 4, 3)
 }
 
 /// A text of all periods gives their records, and these give the text back.
@@ -75,13 +74,13 @@ pub fn runs(program: &Program, tally: &mut Tally) {
         compare(program, tally, &lone(&[(period, 1)]), &stream, options(false));
     }
     let stream = Stream::of(vec![(0, vec![0; 255])]);
-    compare(program, tally, &lone(&[(16_777_215, 255)]), &stream, options(true));
+    compare(program, tally, &lone(&[(MOST_PERIOD, 255)]), &stream, options(true));
 }
 
 /// The longest period waited out, by the last of 256 packets. T is 3, so its bound is
 /// 256 × (P + 2) − 1, which is more than a word holds.
 pub fn longest(program: &Program) {
-    let plan = lone(&[(16_777_215, 255), (16_777_215, 1)]);
+    let plan = lone(&[(MOST_PERIOD, 255), (MOST_PERIOD, 1)]);
     write(&program.file("run.plan"), &plan.file(b""));
     let stream = Stream::of(vec![(0, vec![0; 256])]);
     let got = program.answer(&["run", "run.plan", "--summary"], stream.text.as_bytes());
