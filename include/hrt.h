@@ -5,7 +5,8 @@
  * its state or deliveries, hrt_write's target and its state or notes, hrt_offer_set's state and flows lie apart. Only what is
  * merely read may overlap, as hrt_write's state and notes.
  * The functions have no memory of their own. Calls may run at once, in several threads, if what one of them writes is lent to
- * no other: all may read one plan, and a state is in one hrt_reset, hrt_offer, hrt_offer_set or hrt_step at a time.
+ * no other: all may read one plan, and a state is in one hrt_reset, hrt_offer, hrt_offer_trial, hrt_offer_set or hrt_step at a
+ * time.
  *
  * A refused call changes nothing that was lent to it.
  * hrt_window answers the window T, 1 to 65,535, or 65,536 + the refusal number.
@@ -26,6 +27,7 @@ extern "C" {
 #define HRT_MOST_FLOWS 256
 #define HRT_MOST_PERIOD 16777215    /* cycles of a flow's period; the least is 1 */
 #define HRT_MOST_WAITING 65535      /* packets of a flow that wait; one offer more is refused with 13 */
+#define HRT_MOST_TRIAL 255          /* as many, whoever offered them: one more of the trial generator is refused with 18 */
 #define HRT_LAST_CLOCK 4294967295u  /* a step in this cycle is refused with 11 */
 #define HRT_MOST_RECENT 16          /* deliveries that a record may hold; the least is 1 */
 
@@ -58,6 +60,11 @@ uint64_t hrt_reset(const uint8_t *plan, size_t plan_bytes, uint32_t *state, size
 
 /* Offers one packet of a flow. Answers 0. */
 uint64_t hrt_offer(uint32_t *state, size_t state_words, uint32_t flow);
+
+/* Offers one packet of a flow for the trial generator, which must not fill the sonar's queues: with HRT_MOST_TRIAL or more
+ * packets of the flow waiting, whichever call offered them, it is refused with 18. An accepted packet is as any other.
+ * Answers 0. */
+uint64_t hrt_offer_trial(uint32_t *state, size_t state_words, uint32_t flow);
 
 /* Offers one packet for each entry of a list of flows, of any length and in any order; a flow named twice gets two. Either all
  * are accepted or none is. The first entry that would be refused, counting the entries before it as already added, gives its

@@ -19,6 +19,7 @@ mod raw {
             state_words: usize,
         ) -> u64;
         pub fn hrt_offer(state: *mut u32, state_words: usize, flow: u32) -> u64;
+        pub fn hrt_offer_trial(state: *mut u32, state_words: usize, flow: u32) -> u64;
         pub fn hrt_offer_set(
             state: *mut u32,
             state_words: usize,
@@ -79,6 +80,12 @@ pub fn reset(plan: &[u8], state: &mut [u32]) -> u64 {
 #[inline]
 pub fn offer(state: &mut [u32], flow: u32) -> u64 {
     unsafe { raw::hrt_offer(state.as_mut_ptr(), state.len(), flow) }
+}
+
+/// Offers one packet of a flow for the trial generator. Answers 0.
+#[inline]
+pub fn offer_trial(state: &mut [u32], flow: u32) -> u64 {
+    unsafe { raw::hrt_offer_trial(state.as_mut_ptr(), state.len(), flow) }
 }
 
 /// Offers one packet for each entry of a list of flows, all or none. Answers 0.

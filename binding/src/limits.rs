@@ -18,6 +18,8 @@ pub const MOST_BURST: u32 = 255;
 pub const MOST_WINDOW: u32 = 65_535;
 /// The most packets of a flow that wait at its source.
 pub const MOST_WAITING: u32 = 65_535;
+/// The most packets of a flow that wait, whoever offered them, after an offer of the trial generator.
+pub const MOST_TRIAL: u32 = 255;
 /// The last value of the clock, at which a step is refused.
 pub const LAST_CLOCK: u32 = u32::MAX;
 /// The fewest deliveries that a flow's record may be asked to keep.

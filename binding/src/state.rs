@@ -107,6 +107,14 @@ impl State {
         Answer::of(calls::offer(&mut self.words, flow))
     }
 
+    /// Offers one packet of a flow for the trial generator, which must not fill the sonar's queues.
+    /// Refusals 12, and 18 with [`MOST_TRIAL`](crate::limits::MOST_TRIAL) or more packets of the flow
+    /// waiting, whoever offered them.
+    #[inline]
+    pub fn offer_trial(&mut self, flow: u32) -> Answer {
+        Answer::of(calls::offer_trial(&mut self.words, flow))
+    }
+
     /// Offers one packet for each entry of a list of flows, before the step of this cycle: all are
     /// accepted or none is. The place of refusals 12 and 13 is the position of the first entry that
     /// would be refused, the entries before it being counted.
