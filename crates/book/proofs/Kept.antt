@@ -15,6 +15,8 @@ use Rattle.laws.specs.Count.{count}
 use Rattle.laws.proofs.Cases.{and-true, passed}
 use Rattle.laws.proofs.Turns.{turns-along}
 use Rattle.laws.proofs.Count.{one-most, count-map, count-append, count-mono}
+use Rattle.flow.specs.declared.Offerer.{Offerer}
+use Rattle.flow.specs.declared.Offerer.the-variants.{Sonar}
 use Rattle.flow.specs.Plan.{Plan, flowAt}
 use Rattle.flow.specs.Ranges.{PlanOk}
 use Rattle.window.specs.Window.{interference}
@@ -60,7 +62,7 @@ early p length clock e =
 -- before it, or a step before the last clock
 pub feed-cases : (p : Plan) (b : Book) (Q : Fed → Type 0)
     → ((n place : ℕ) → Q (record { book = b; reply = Refused n place; delivered = [] }))
-    → ((f : ℕ) → Room p b f → Q (accepted p b (offer f)))
+    → ((who : Offerer) (f : ℕ) → Room p b f → Q (accepted p b (offer who f)))
     → ((flows : List ℕ) → ((k : ℕ) → k < length flows → Room p (offeredFirst b flows k) (getD flows k 0)) → Q (accepted p b (offerSet flows)))
     → ((room : ℕ) → b .clock ≢ lastClock → Q (accepted p b (step room))) → (c : Call) → Q (feed p b c)
 unfolding feed refusal setNumber
@@ -68,9 +70,9 @@ feed-cases p b Q refuses offers sets steps c = by c (refusal p b c) refl
   where
     by : (c : Call) (a : Answer) → refusal p b c ≡ a → Q (judged p b c a)
     by c (Refused n place) e = refuses n place
-    by (offer f) (Done v) e = offers f (offer-passes p f (waitingOf b f) (answer-done _ _ _ e))
+    by (offer who f) (Done v) e = offers who f (offer-passes who p f (waitingOf b f) (answer-done _ _ _ e))
     by (offerSet flows) (Done v) e =
-        sets flows (λ k l. let f = getD flows k 0 in offer-passes p f (waitingOf (offeredFirst b flows k) f) (first-done _ _ _ e k l))
+        sets flows (λ k l. let f = getD flows k 0 in offer-passes Sonar p f (waitingOf (offeredFirst b flows k) f) (first-done _ _ _ e k l))
     by (step words) (Done v) e = steps words (early p words (b .clock) (answer-done _ _ _ e))
 
 module _ (p : Plan) where
@@ -133,7 +135,7 @@ module _ (p : Plan) where
 
     pub kept-feed : (c : Call) → Kept p (feed p b c .book)
     kept-feed c =
-        feed-cases p b (λ (fed : Fed). Kept p (fed .book)) (λ n place. k) (kept-offer b k) kept-set (λ room early. kept-step b k early) c
+        feed-cases p b (λ (fed : Fed). Kept p (fed .book)) (λ n place. k) (λ who f room. kept-offer b k f room) kept-set (λ room early. kept-step b k early) c
 
     -- an offer lets nothing leave, nor does a set of them
     offered-leaves : (r : Delivery → Bool) (now : Book) (f : ℕ) → count (gone r) (offered now f .lines) ≡ count (gone r) (now .lines)
@@ -148,7 +150,7 @@ module _ (p : Plan) where
     feed-delivered r c =
         feed-cases p b (λ (fed : Fed). count (gone r) (fed .book .lines) ≡ count (gone r) (b .lines) + count r (fed .delivered))
         (λ n place. omega arith)
-        (λ f room. omega (arith, offered-leaves r b f))
+        (λ who f room. omega (arith, offered-leaves r b f))
         (λ flows rooms. omega (arith, set-leaves r flows (length flows)))
         (λ room early. step-delivered p b (k .lawful) r)
         c

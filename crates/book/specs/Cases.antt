@@ -4,6 +4,7 @@ use mathlib.Core.List.{List, [], _∷_, map}
 use mathlib.Core.Path.{_≡_}
 use Prim.Native.Nat.{ℕ, zero, suc}
 use Rattle.flow.specs.declared.Flow.{Flow}
+use Rattle.flow.specs.declared.Offerer.the-variants.{Sonar}
 use Rattle.flow.specs.Offsets.{ΔX, ΔY}
 use Rattle.flow.specs.Plan.{Plan, flowWith as flow, flowAt}
 use Rattle.plan.specs.declared.Answer.{Answer}
@@ -15,10 +16,15 @@ use Rattle.flight.specs.Flight.{flight, flightBound}
 use Rattle.bounds.specs.Bounds.{windowAnswer}
 use Rattle.book.specs.Book.{bucketAt}
 use Rattle.router.specs.Delivery.{Delivery, deliveryWith as exit}
-use Rattle.book.specs.Feed.{Call, offer, step, run}
+use Rattle.book.specs.Feed.{Call, step, run}
+use Rattle.book.specs.Feed as Feed
 
 abbrev torus : List Flow → Plan
 torus fs = record { sx = 4; sy = 4; flows = fs }
+
+-- an offer of the sonar's
+abbrev offer : (flow : ℕ) → Call
+offer = Feed.offer Sonar
 
 -- n steps with room for all exits, and what comes after them
 abbrev after : ℕ → List Call → List Call

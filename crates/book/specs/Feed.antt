@@ -1,8 +1,9 @@
 -- The calls that the packet book is fed, its answers, and a list of calls from the start (01, The packet book; When a call says no;
--- 02, U4).
+-- 02, U4, U6).
 use mathlib.Core.List.{List, [], _∷_, _++_}
 use Prim.Native.Nat.{ℕ}
 use lib.ListN.{length}
+use Rattle.flow.specs.declared.Offerer.{Offerer}
 use Rattle.flow.specs.Plan.{Plan}
 use Rattle.flow.specs.Limits.{offerNumber, stepNumber}
 use Rattle.plan.specs.declared.Answer.{Answer}
@@ -13,15 +14,15 @@ use Rattle.book.specs.Book.{Book, start, offered, offeredFirst, waitingO
 use Rattle.router.specs.Delivery.{Delivery}
 use Rattle.book.specs.Cycle.{stepped, deliveries}
 
--- a call's kind and arguments: a flow, a list of flows, or a length of delivery memory
+-- a call's kind and arguments: who offers and a flow, a list of flows, or a length of delivery memory
 pub data Call : Type 0 where
-  offer : (flow : ℕ) → Call
+  offer : Offerer → (flow : ℕ) → Call
   offerSet : (flows : List ℕ) → Call
   step : (room : ℕ) → Call
 
 -- what the table says, judged by the plan and the book's clock and lines: the number with its place, or 0 for a call that isn't refused
 unfoldable pub refusal : Plan → Book → Call → Answer
-refusal p b (offer f) = answerBy (offerNumber p f (waitingOf b f)) 0
+refusal p b (offer who f) = answerBy (offerNumber who p f (waitingOf b f)) 0
 refusal p b (offerSet flows) = setAnswer p (λ n f. waitingOf (offeredFirst b flows n) f) flows
 refusal p b (step room) = answerBy (stepNumber p room (b .clock)) 0
 
@@ -33,7 +34,7 @@ pub record Fed : Type 0 where
 
 -- a call that isn't refused
 abbrev pub accepted : Plan → Book → Call → Fed
-accepted p b (offer f) = record { book = offered b f; reply = Done 0; delivered = [] }
+accepted p b (offer who f) = record { book = offered b f; reply = Done 0; delivered = [] }
 accepted p b (offerSet flows) = record { book = offeredFirst b flows (length flows); reply = Done 0; delivered = [] }
 accepted p b (step room) = record { book = stepped p b; reply = Done (length (deliveries p b)); delivered = deliveries p b }
 

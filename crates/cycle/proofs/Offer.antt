@@ -14,6 +14,7 @@ use lib.Seq.{getD-set-same, getD-set-other, drop-at}
 use Rattle.laws.proofs.Cases.{and-true}
 use Rattle.laws.proofs.Stands.{stands-first}
 use Rattle.flow.specs.declared.Flow.{Flow}
+use Rattle.flow.specs.declared.Offerer.{Offerer}
 use Rattle.flow.specs.Plan.{flowAt}
 use Rattle.flow.specs.Limits.{mostWaiting, offerNumber}
 use Rattle.flow.proofs.Limits.{offer-passes}
@@ -112,8 +113,8 @@ module _ (s : State) (f n : ℕ) (below : f < length (s .tallies)) where
       }
 
 -- an offer that isn't refused
-pub offer-sound : (s : State) (f : ℕ) → Sound s → offerNumber (s .plan) f ((tallyAt s f) .waiting) ≡ 0 → Sound (offerState s f)
+pub offer-sound : (who : Offerer) (s : State) (f : ℕ) → Sound s → offerNumber who (s .plan) f ((tallyAt s f) .waiting) ≡ 0 → Sound (offerState s f)
 unfolding offerState
-offer-sound s f sound e =
-    let passes = offer-passes (s .plan) f _ e in
+offer-sound who s f sound e =
+    let passes = offer-passes who (s .plan) f _ e in
     waiting-sound s f _ (omega (arith, sound .sized .tallies-all, passes .0)) sound (omega (arith, passes .1))

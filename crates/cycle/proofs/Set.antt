@@ -9,6 +9,7 @@ use Rattle.laws.specs.Bounded.{sumBelow}
 use Rattle.laws.specs.Turns.{turns}
 use Rattle.laws.proofs.Sum.{sum-one, sum-most}
 use Rattle.laws.proofs.Turns.{turns-along, turns-more}
+use Rattle.flow.specs.declared.Offerer.the-variants.{Sonar}
 use Rattle.flow.specs.Plan.{Plan, mostFlows}
 use Rattle.flow.specs.Limits.{mostWaiting}
 use Rattle.flow.proofs.Limits.{offer-passes}
@@ -40,12 +41,12 @@ module _ (s : State) (flows : List ℕ) where
   -- an entry that isn't refused is a flow of the plan
   pub entry-known : (n : ℕ) → entryNumber s flows n ≡ 0 → getD flows n 0 < length (s .plan .flows)
   unfolding setNumber
-  entry-known n e = offer-passes _ _ _ e .0
+  entry-known n e = offer-passes Sonar _ _ _ e .0
 
   module _ (sound : Sound s) where
     pub first-sound : (n : ℕ) → Passed n → Sound (withFirst s flows n)
     unfolding setNumber
-    first-sound n passed = turns-along n _ s Sound (λ k l now. offer-sound _ _ now (rw (first-plan k) (passed k l))) sound
+    first-sound n passed = turns-along n _ s Sound (λ k l now. offer-sound Sonar _ _ now (rw (first-plan k) (passed k l))) sound
 
     -- all waiting packets
     abbrev waitingIn : State → ℕ

@@ -1,7 +1,8 @@
--- An offer: the state after it, and what it answers and leaves behind (01, State memory; When a call says no).
+-- An offer: the state after it, and what it answers and leaves behind (01, State memory; When a call says no; 02, U6).
 use mathlib.Core.List.{List}
 use Prim.Native.Nat.{ℕ, _+_}
 use lib.ListN.{set}
+use Rattle.flow.specs.declared.Offerer.{Offerer}
 use Rattle.flow.specs.Limits.{offerNumber}
 use Rattle.plan.specs.declared.Answer.{Answer}
 use Rattle.plan.specs.declared.Answer.the-variants.{Done}
@@ -27,10 +28,10 @@ withWaiting s flow waiting =
 unfoldable pub offerState : State → (flow : ℕ) → State
 offerState s flow = withWaiting s flow ((tallyAt s flow) .waiting + 1)
 
--- an offer: state, 12, 13; otherwise one more waiting
-unfoldable pub offerOn : (words : List ℕ) → (flow : ℕ) → Outcome Answer (List ℕ)
-offerOn words flow =
+-- an offer: state, 12, then a full queue by the limit of who offers; otherwise one more waiting
+unfoldable pub offerOn : Offerer → (words : List ℕ) → (flow : ℕ) → Outcome Answer (List ℕ)
+offerOn who words flow =
     let s = stateOf words in
     unless (stateNumber words) words
-    (unless (offerNumber (s .plan) flow ((tallyAt s flow) .waiting)) words
+    (unless (offerNumber who (s .plan) flow ((tallyAt s flow) .waiting)) words
     (outcome (Done 0) (over (stateWords (offerState s flow)) words)))

@@ -1,13 +1,18 @@
-// A flow's plan numbers, its offsets on the torus and its port. Rests on laws and torus.
+// A flow's plan numbers, its offsets on the torus and its port; who offers packets, and the limits. Rests on laws and torus.
 ghost use mathlib.Core.Path.{_≡_};
 ghost use Prim.Native.Nat.{_≤_, _<_};
 ghost use Rattle.flow.specs.Offsets.{ΔX, ΔY, portOf, sameClient};
 ghost use Rattle.flow.specs.Plan.{mostSize, onTorus};
+ghost use Rattle.flow.specs.Limits.{limitOf};
 
 // A flow's period is at most this.
 pub const MOST_PERIOD: u32 = 16777215;
 // A flow's burst is at most this.
 pub const MOST_BURST: u32 = 255;
+// A flow's most waiting packets.
+pub const MOST_WAITING: u32 = 65535;
+// As many, where the trial generator may not offer one more.
+pub const MOST_TRIAL: u32 = 255;
 
 // The six plan numbers of a flow, in record order: source, destination, period P and burst σ.
 pub struct Flow {
@@ -23,6 +28,35 @@ pub struct Flow {
 pub enum Port {
     East,
     South,
+}
+
+// Who offers a packet: the sonar, or the trial generator.
+pub enum Offerer {
+    Sonar,
+    Generator,
+}
+
+// An offer's limit: with so many packets of the flow waiting, it is refused with this number.
+pub struct Limit {
+    pub waiting: u32,
+    pub number: u32,
+}
+
+impl Offerer {
+    pub fn limit(self) -> Limit
+        ensures { λ r. ⌜ r ≡ limitOf self ⌝ }
+    {
+        match self {
+            Offerer::Sonar => Limit {
+                waiting: MOST_WAITING,
+                number: 13,
+            },
+            Offerer::Generator => Limit {
+                waiting: MOST_TRIAL,
+                number: 18,
+            },
+        }
+    }
 }
 
 impl Flow {

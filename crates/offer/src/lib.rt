@@ -1,4 +1,5 @@
-// An offer of one packet to a flow. Rests on valid and cycle.
+// An offer of one packet to a flow, by the sonar or the trial generator. Rests on valid and cycle.
+use flow::Offerer;
 use plan::Answer;
 use state::Tally;
 ghost use mathlib.Core.Path.{_≡_};
@@ -36,29 +37,30 @@ pub fn wait_more(state: &mut [u32], f: u32)
 }
 
 // The refusal of an offer after the state's own, or 0.
-pub fn offer_number(state: &[u32], f: u32) -> u32
+pub fn offer_number(who: Offerer, state: &[u32], f: u32) -> u32
     requires { ⌜ StateFacts (now state) ⌝ }
-    ensures { λ r. ⌜ r ≡ offerNumber ((stateOf (now (state .entry))) .plan) f ((tallyAt (stateOf (now (state .entry))) f) .waiting) ⌝ }
+    ensures { λ r. ⌜ r ≡ offerNumber who ((stateOf (now (state .entry))) .plan) f ((tallyAt (stateOf (now (state .entry))) f) .waiting) ⌝ }
 {
+    let limit = who.limit();
     if state[state::FLOWS] <= f {
         return 12;
     }
     let t = cycle::tally_at(state, f);
-    if state::MOST_WAITING <= t.waiting {
-        return 13;
+    if limit.waiting <= t.waiting {
+        return limit.number;
     }
     0
 }
 
 // An offer of one packet to a flow: 0, or the refusal.
-pub fn offer(state: &mut [u32], flow: u32) -> Answer
-    ensures { λ r. ⌜ outcome r (now (state .exit)) ≡ offerOn (now (state .entry)) flow ⌝ }
+pub fn offer(who: Offerer, state: &mut [u32], flow: u32) -> Answer
+    ensures { λ r. ⌜ outcome r (now (state .exit)) ≡ offerOn who (now (state .entry)) flow ⌝ }
 {
     let number = valid::state_number(state);
     if number != 0 {
         return Answer::Refused { number, place: 0 };
     }
-    let other = offer_number(state, flow);
+    let other = offer_number(who, state, flow);
     if other != 0 {
         return Answer::Refused {
             number: other,

@@ -8,6 +8,7 @@ use native.Mathlib.Nat.{add-sub-cancel}
 use native.Mathlib.Omega.{arith}
 use lib.ListN.{length, getD, set}
 use lib.Seq.{set-set, set-getD}
+use Rattle.flow.specs.declared.Offerer.the-variants.{Sonar}
 use Rattle.flow.specs.Plan.{Plan, mostFlows}
 use Rattle.flow.specs.Limits.{mostWaiting, offerNumber}
 use Rattle.plan.specs.Set.{setNumber}
@@ -59,7 +60,7 @@ module _ (before flows : List ℕ) (n : ℕ) (memory : List ℕ) (a : Added befo
 
   -- the next entry's number
   pub added-number : (f : ℕ) → f ≡ getD flows n 0
-      → offerNumber ((stateOf memory) .plan) f ((tallyAt (stateOf memory) f) .waiting) ≡ entryNumber s flows n
+      → offerNumber Sonar ((stateOf memory) .plan) f ((tallyAt (stateOf memory) f) .waiting) ≡ entryNumber s flows n
   unfolding setNumber
   added-number f e = rw (added-state, e, first-plan s flows n)
 

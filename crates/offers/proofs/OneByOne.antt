@@ -7,6 +7,7 @@ use native.Mathlib.Numerals.{add-one}
 use native.Mathlib.Omega.{arith}
 use lib.ListN.{length, getD}
 use Rattle.laws.specs.Turns.{turns}
+use Rattle.flow.specs.declared.Offerer.the-variants.{Sonar}
 use Rattle.flow.specs.Limits.{offerNumber}
 use Rattle.plan.specs.declared.Answer.{Answer}
 use Rattle.plan.specs.declared.Answer.the-variants.{Done, Refused}
@@ -26,12 +27,12 @@ use Rattle.offers.proofs.Added.{added-none, added-forms, added-number, 
 use Rattle.offers.proofs.Ends.{set-accepted}
 
 -- a single offer on words that form a state
-module _ (w : List ℕ) (formed : stateNumber w ≡ 0) (f n : ℕ) (number : offerNumber ((stateOf w) .plan) f ((tallyAt (stateOf w) f) .waiting) ≡ n) where
-  offer-done : n ≡ 0 → offerOn w f ≡ outcome (Done 0) (over (stateWords (offerState (stateOf w) f)) w)
+module _ (w : List ℕ) (formed : stateNumber w ≡ 0) (f n : ℕ) (number : offerNumber Sonar ((stateOf w) .plan) f ((tallyAt (stateOf w) f) .waiting) ≡ n) where
+  offer-done : n ≡ 0 → offerOn Sonar w f ≡ outcome (Done 0) (over (stateWords (offerState (stateOf w) f)) w)
   unfolding offerOn unless
   offer-done e = rw (formed, number, e)
 
-  offer-refused : (n ≡ 0 → ⊥) → offerOn w f ≡ refused n w
+  offer-refused : (n ≡ 0 → ⊥) → offerOn Sonar w f ≡ refused n w
   unfolding offerOn
   offer-refused h = rw (formed, number) (sym (unless-refuses n w _ h ∙ unless-passes 0 w _ refl))
 

@@ -1,4 +1,5 @@
 // An offer that names a set of flows: all of them or none. Rests on offer and valid.
+use flow::Offerer;
 use plan::Answer;
 ghost use mathlib.Core.Path.{_≡_};
 ghost use Prim.Native.Nat.{_≤_};
@@ -18,7 +19,7 @@ fn add_entries(state: &mut [u32], flows: &[u32]) -> usize
 {
     for k in 0..flows.len() {
         let f = flows[k];
-        if offer::offer_number(state, f) != 0 {
+        if offer::offer_number(Offerer::Sonar, state, f) != 0 {
             return k;
         }
         offer::wait_more(state, f);
@@ -60,7 +61,7 @@ pub fn offer_set(state: &mut [u32], flows: &[u32]) -> Answer
     }
     let f = flows[n];
     let place = n as u32;
-    let other = offer::offer_number(state, f);
+    let other = offer::offer_number(Offerer::Sonar, state, f);
     take_back(state, flows, n);
     Answer::Refused {
         number: other,

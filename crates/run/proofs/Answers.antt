@@ -11,6 +11,8 @@ use lib.ListN.{length, getD, drop}
 use Rattle.laws.specs.Bounded.{tabulate}
 use Rattle.laws.proofs.Cases.{test}
 use Rattle.flow.specs.declared.Flow.{Flow}
+use Rattle.flow.specs.declared.Offerer.{Offerer}
+use Rattle.flow.specs.declared.Offerer.the-variants.{Sonar}
 use Rattle.flow.specs.Plan.{Plan, flowAt}
 use Rattle.flow.proofs.Limits.{offer-passes}
 use Rattle.plan.specs.declared.Answer.{Answer}
@@ -73,8 +75,8 @@ run-last p b [] c = refl
 run-last p b (d ∷ cs) c = run-last p ((feed p b d) .book) cs c
 
 -- neither an offer nor a set is a reset
-offer-reset : (f : ℕ) (file : List ℕ) → offer f ≡ reset file → ⊥
-offer-reset f file e = let z : _≡_ {A = ℕ} 0 1 = cc in omega arith
+offer-reset : (who : Offerer) (f : ℕ) (file : List ℕ) → offer who f ≡ reset file → ⊥
+offer-reset who f file e = let z : _≡_ {A = ℕ} 0 1 = cc in omega arith
 
 set-reset : (flows file : List ℕ) → offerSet flows ≡ reset file → ⊥
 set-reset flows file e = let z : _≡_ {A = ℕ} 0 1 = cc in omega arith
@@ -153,15 +155,15 @@ module _ (file words : List ℕ) (bytes : Bytes file) (done : (resetOn file word
     item asked = record { asked = asked; lentWords = n }
 
     -- so the book has the line of an offer, and no other one more
-    numbers : (f : ℕ) → (onMemory memory (item (offer f))) .answer ≡ Done 0
-        → (bookAfter file (is ++ (item (offer f) ∷ []))) .lines ≡ b .lines ++ (acceptedLine memory f ∷ [])
+    numbers : (who : Offerer) (f : ℕ) → (onMemory memory (item (offer who f))) .answer ≡ Done 0
+        → (bookAfter file (is ++ (item (offer who f) ∷ []))) .lines ≡ b .lines ++ (acceptedLine memory f ∷ [])
     unfolding refusal
-    numbers f e =
-        let none : (g : List ℕ) → offer f ≡ reset g → ⊥ = λ g r. offer-reset f g r in
-        let passed = free (Feed.offer f) (item (offer f)) refl none e in
-        let known = offer-passes p f (waitingOf b f) (answer-done _ _ _ (passed .1)) .0 in
+    numbers who f e =
+        let none : (g : List ℕ) → offer who f ≡ reset g → ⊥ = λ g r. offer-reset who f g r in
+        let passed = free (Feed.offer who f) (item (offer who f)) refl none e in
+        let known = offer-passes who p f (waitingOf b f) (answer-done _ _ _ (passed .1)) .0 in
         let line = ap (λ m. acceptedLine m f) (follows .state) ∙ line-read p b tail f known in
-        ap (λ (c : Book). c .lines) (adds (Feed.offer f) (item (offer f)) refl none e) ∙ ap (λ l. b .lines ++ (l ∷ [])) (sym line)
+        ap (λ (c : Book). c .lines) (adds (Feed.offer who f) (item (offer who f)) refl none e) ∙ ap (λ l. b .lines ++ (l ∷ [])) (sym line)
 
     -- and those of a set
     set-numbers : (flows : List ℕ) → (onMemory memory (item (offerSet flows))) .answer ≡ Done 0
@@ -170,7 +172,7 @@ module _ (file words : List ℕ) (bytes : Bytes file) (done : (resetOn file word
     set-numbers flows e =
         let none : (g : List ℕ) → offerSet flows ≡ reset g → ⊥ = λ g r. set-reset flows g r in
         let passed = free (Feed.offerSet flows) (item (offerSet flows)) refl none e in
-        let known : (k : ℕ) → k < length flows → getD flows k 0 < length (p .flows) = λ k l. offer-passes p _ _ (first-done _ _ _ (passed .1) k l) .0 in
+        let known : (k : ℕ) → k < length flows → getD flows k 0 < length (p .flows) = λ k l. offer-passes Sonar p _ _ (first-done _ _ _ (passed .1) k l) .0 in
         ap (λ (c : Book). c .lines) (adds (Feed.offerSet flows) (item (offerSet flows)) refl none e)
         ∙ lines-read b flows p tail known
         ∙ ap (λ m. b .lines ++ tabulate (length flows) (entryLine m flows)) (sym (follows .state))
@@ -185,7 +187,7 @@ every-answer file words bytes done is l =
       lone-enters = λ x m T e lone past. entered file words bytes done is l x m T _ e (rw lone (omega arith)) past;
       flies-within = λ x m B e gone. omega (arith, flight-told file (x .flow) B e, flown file words bytes done is l x m gone);
       leaves-by = λ x m B e in-flight past. gone file words bytes done is l x m in-flight (omega (arith, flight-told file (x .flow) B e));
-      gets-serial = λ f n. numbers file words bytes done is l n f;
+      gets-serial = λ who f n. numbers file words bytes done is l n who f;
       get-serials = λ flows n. set-numbers file words bytes done is l n flows;
       writes-back = λ target room. file-back file _ target (a .value) bytes (a .file-done) (h .formed) (plan-kept file words bytes done is l) room;
     }

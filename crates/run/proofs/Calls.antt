@@ -4,6 +4,7 @@ use mathlib.Core.List.{List, []}
 use mathlib.Core.Path.{_≡_, refl}
 use Prim.Native.Nat.{ℕ, zero, suc}
 use lib.ListN.{length}
+use Rattle.flow.specs.declared.Offerer.{Offerer}
 use Rattle.flow.specs.Plan.{Plan}
 use Rattle.book.specs.Book.{Book, waitingOf}
 use Rattle.router.specs.Delivery.{wordsOf}
@@ -43,13 +44,13 @@ module _ (p : Plan) (b : Book) (k : Kept p b) (tail : List ℕ) where
   step-number room = refl
 
   -- and by that number do the same
-  offer-by : (f n : ℕ) → offerNumber p f (waitingOf b f) ≡ n → let now : Fed = judged p b (Feed.offer f) (answerBy n 0) in
+  offer-by : (who : Offerer) (f n : ℕ) → offerNumber who p f (waitingOf b f) ≡ n → let now : Fed = judged p b (Feed.offer who f) (answerBy n 0) in
       let o : Outcome Answer (List ℕ) = unless n w (outcome (Done 0) (over (stateWords (offerState (bookState p b) f)) w)) in
       outcome (o .answer) (whole (o .memory) (justWords []))
       ≡ outcome (now .reply) (whole (image p (now .book) tail) (justWords (over (wordsOf (now .delivered)) [])))
   unfolding unless
-  offer-by f zero e = rw (offer-follows p b f (offer-passes p f _ e .0), image-again p b tail)
-  offer-by f (suc n) e = refl
+  offer-by who f zero e = rw (offer-follows p b f (offer-passes who p f _ e .0), image-again p b tail)
+  offer-by who f (suc n) e = refl
 
   set-by : (flows : List ℕ) (a : Answer) → bookAnswer p b flows ≡ a → let now : Fed = judged p b (Feed.offerSet flows) a in
       let o : Outcome Answer (List ℕ) = unlessRefused a w (outcome (Done 0) (over (stateWords (withFirst (bookState p b) flows (length flows))) w)) in
@@ -69,10 +70,10 @@ module _ (p : Plan) (b : Book) (k : Kept p b) (tail : List ℕ) where
   step-by delivery zero = rw (step-follows p b k, deliveries-follow p b k, image-again p b tail)
   step-by delivery (suc n) = refl
 
-  pub offer-on : (f : ℕ) → let now : Fed = feed p b (Feed.offer f) in
-      onWords (offer f) w ≡ outcome (now .reply) (whole (image p (now .book) tail) (justWords (over (wordsOf (now .delivered)) [])))
+  pub offer-on : (who : Offerer) (f : ℕ) → let now : Fed = feed p b (Feed.offer who f) in
+      onWords (offer who f) w ≡ outcome (now .reply) (whole (image p (now .book) tail) (justWords (over (wordsOf (now .delivered)) [])))
   unfolding offerOn unless feed refusal
-  offer-on f = rw (number p b tail k, state-is p b tail, offer-number p b f) (offer-by f (offerNumber p f (waitingOf b f)) refl)
+  offer-on who f = rw (number p b tail k, state-is p b tail, offer-number who p b f) (offer-by who f (offerNumber who p f (waitingOf b f)) refl)
 
   pub set-on : (flows : List ℕ) → let now : Fed = feed p b (Feed.offerSet flows) in
       onWords (offerSet flows) w ≡ outcome (now .reply) (whole (image p (now .book) tail) (justWords (over (wordsOf (now .delivered)) [])))

@@ -71,7 +71,7 @@ fed-words : (p : Plan) (b : Book) (c : Call) (other : List ℕ) → let now : Fe
 fed-words p b c other =
     feed-cases p b
     (λ (now : Fed). take (wordCount (now .reply)) (over (wordsOf (now .delivered)) other) ≡ wordsOf (now .delivered))
-    (λ n place. refl) (λ f room. refl) (λ flows rooms. refl)
+    (λ n place. refl) (λ who f room. refl) (λ flows rooms. refl)
     (λ room early. take-at (wordsOf (deliveries p b)) _ (5 * length (deliveries p b)) (words-length (deliveries p b)))
     c
 
@@ -123,7 +123,7 @@ module _ (p : Plan) (words : List ℕ) where
           (ap (λ w. outcome ((resetOn file part) .answer) (whole w (justWords []))) (reset-refused file part (may file refl)))
 
       does-enough : (c : Asked) → planSize p ≤ n → May c → Does (item c) (role c)
-      does-enough (offer f) h may = enough (feed p b (Feed.offer f) .book) (item (offer f)) _ _ h (λ t. offer-on p b k t f)
+      does-enough (offer who f) h may = enough (feed p b (Feed.offer who f) .book) (item (offer who f)) _ _ h (λ t. offer-on p b k t who f)
       does-enough (offerSet flows) h may =
           enough (feed p b (Feed.offerSet flows) .book) (item (offerSet flows)) _ _ h (λ t. set-on p b k t flows)
       does-enough (step delivery) h may =
@@ -135,7 +135,7 @@ module _ (p : Plan) (words : List ℕ) where
 
       does-little : (c : Asked) → n < planSize p → May c → Does (item c) (tooLittle (role c))
       unfolding offerOn offerSetOn stepOn writeOn feedOn unless
-      does-little (offer f) few may = unchanged m (item (offer f)) _ _ (rw (short p b tail k n few))
+      does-little (offer who f) few may = unchanged m (item (offer who f)) _ _ (rw (short p b tail k n few))
       does-little (offerSet flows) few may = unchanged m (item (offerSet flows)) _ _ (rw (short p b tail k n few))
       does-little (step delivery) few may = unchanged m (item (step delivery)) _ _ (rw (short p b tail k n few))
       does-little (write notes target) few may = unchanged m (item (write notes target)) _ _ (rw (short p b tail k n few))

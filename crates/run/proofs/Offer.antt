@@ -18,6 +18,7 @@ use Rattle.laws.proofs.Bounded.{length-tabulate, getD-tabulate, is-tabulate}
 use Rattle.laws.proofs.Count.{count-append}
 use Rattle.laws.proofs.Keep.{keep-append}
 use Rattle.laws.proofs.Grid.{tabulate-same, grid-same}
+use Rattle.flow.specs.declared.Offerer.{Offerer}
 use Rattle.flow.specs.Plan.{Plan, flowAt}
 use Rattle.flow.specs.Limits.{offerNumber}
 use Rattle.bucket.specs.Regulator.{fullBucket}
@@ -44,10 +45,10 @@ start-follows p =
         λ i. record { bucket = e i; entered = 0; waiting = 0 }
 
 -- both sides give an offer the same number
-pub offer-number : (p : Plan) (b : Book) (f : ℕ) → let s = bookState p b in
-    offerNumber (s .plan) f ((tallyAt s f) .waiting) ≡ offerNumber p f (waitingOf b f)
+pub offer-number : (who : Offerer) (p : Plan) (b : Book) (f : ℕ) → let s = bookState p b in
+    offerNumber who (s .plan) f ((tallyAt s f) .waiting) ≡ offerNumber who p f (waitingOf b f)
 unfolding bookState offerNumber
-offer-number p b f =
+offer-number who p b f =
     elim (test (leb (length (p .flows)) f)) [ inl out ↦ rw out | inr in-plan ↦ rw (tally-at p b f (leb-false _ _ in-plan)) ]
 
 -- one more waiting

@@ -6,6 +6,7 @@ use Prim.Native.Nat.{ℕ, zero, suc, _<_}
 use native.Mathlib.Omega.{arith}
 use lib.ListN.{length, getD}
 use Rattle.laws.specs.Turns.{turns}
+use Rattle.flow.specs.declared.Offerer.the-variants.{Sonar}
 use Rattle.flow.specs.Plan.{Plan}
 use Rattle.flow.specs.Limits.{offerNumber}
 use Rattle.flow.proofs.Limits.{offer-passes}
@@ -33,13 +34,13 @@ module _ (p : Plan) (b : Book) (flows : List ℕ) where
   set-follows zero passed = refl
   set-follows (suc n) passed =
       ap (λ (s : State). offerState s (getD flows n 0)) (set-follows n (λ k l. passed k (omega arith)))
-      ∙ offer-follows p (offeredFirst b flows n) (getD flows n 0) (offer-passes p _ _ (passed n (omega arith)) .0)
+      ∙ offer-follows p (offeredFirst b flows n) (getD flows n 0) (offer-passes Sonar p _ _ (passed n (omega arith)) .0)
 
   number-same : (n : ℕ) → ((k : ℕ) → k < n → bookNumber k ≡ 0) → entryNumber (bookState p b) flows n ≡ bookNumber n
   unfolding setNumber bookState
   number-same n passed =
-      ap (λ (s : State). offerNumber p (getD flows n 0) ((tallyAt s (getD flows n 0)) .waiting)) (set-follows n passed)
-      ∙ offer-number p (offeredFirst b flows n) (getD flows n 0)
+      ap (λ (s : State). offerNumber Sonar p (getD flows n 0) ((tallyAt s (getD flows n 0)) .waiting)) (set-follows n passed)
+      ∙ offer-number Sonar p (offeredFirst b flows n) (getD flows n 0)
 
   pub set-answer : let s = bookState p b in setAnswer (s .plan) (waitingAfter s flows) flows ≡ bookAnswer
   set-answer = first-same _ bookNumber (length flows) (λ n l passed. number-same n passed)

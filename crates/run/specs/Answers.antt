@@ -1,5 +1,5 @@
 -- What the calls' own answers tell of a whole list from an accepted file's reset: a planner reads windows and flight bounds off the
--- calls, and the packet book bears them out (01, Windows; State memory; The packet book; 02, U4).
+-- calls, and the packet book bears them out (01, Windows; State memory; The packet book; 02, U4, U6).
 use mathlib.Core.Bool.{true, false}
 use mathlib.Core.List.{List, [], _∷_, _++_, List·Memᴰ as Mem}
 use mathlib.Core.Path.{_≡_}
@@ -8,6 +8,7 @@ use lib.Dec.{eqb}
 use lib.ListN.{length, getD, take}
 use Rattle.laws.specs.Bounded.{tabulate}
 use Rattle.laws.specs.Count.{count}
+use Rattle.flow.specs.declared.Offerer.{Offerer}
 use Rattle.flow.specs.Plan.{flowAt}
 use Rattle.plan.specs.declared.Answer.the-variants.{Done}
 use Rattle.file.specs.Layout.{planOf}
@@ -67,8 +68,8 @@ pub record Told (file : List ℕ) (is : List Item) (b : Book) (memory : List ℕ
   -- and an entered line has left once the step of cycle entry+B−2 has run
   pub leaves-by : (l : Line) → Mem l (b .lines) → (B : ℕ) → flightBoundAnswer file (l .flow) ≡ Done B
       → isWaiting (l .stage) ≡ false → HasRun b (entryOf (l .stage) + B - 2) → isLeft (l .stage) ≡ true
-  -- a packet accepted with q waiting gets serial entered + q + 1
-  pub gets-serial : (f n : ℕ) → let i : Item = record { asked = offer f; lentWords = n } in
+  -- a packet accepted with q waiting gets serial entered + q + 1, whoever offers it
+  pub gets-serial : (who : Offerer) (f n : ℕ) → let i : Item = record { asked = offer who f; lentWords = n } in
       (onMemory memory i) .answer ≡ Done 0 → (bookAfter file (is ++ (i ∷ []))) .lines ≡ b .lines ++ (acceptedLine memory f ∷ [])
   -- and so does each of an accepted set, in its order; q counts the earlier entries of the same flow too
   pub get-serials : (flows : List ℕ) (n : ℕ) → let i : Item = record { asked = offerSet flows; lentWords = n } in

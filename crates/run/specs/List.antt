@@ -1,5 +1,5 @@
 -- A whole list of calls on one state, after an accepted reset, and what it comes to: every answer, every word delivered and
--- every word of the state are the packet book's (01, The packet book; 02, U4).
+-- every word of the state are the packet book's (01, The packet book; 02, U4, U6).
 -- A later request's call is one case more of `Asked`, `onWords` and `role`; all else is said of any call.
 use mathlib.Core.Bool.{cond}
 use mathlib.Core.List.{List, [], _∷_, _++_}
@@ -8,6 +8,7 @@ use mathlib.Core.Path.{_≡_}
 use Prim.Native.Nat.{ℕ, _<_}
 use lib.Dec.{ltb}
 use lib.ListN.{length, getD, take, drop}
+use Rattle.flow.specs.declared.Offerer.{Offerer}
 use Rattle.flow.specs.Plan.{Plan}
 use Rattle.plan.specs.declared.Answer.{Answer}
 use Rattle.plan.specs.declared.Answer.the-variants.{Done}
@@ -52,7 +53,7 @@ whole state other = record { state = state; other = other }
 
 -- a call, with what is lent to it beside the state memory
 pub data Asked : Type 0 where
-  offer : (flow : ℕ) → Asked
+  offer : Offerer → (flow : ℕ) → Asked
   offerSet : (flows : List ℕ) → Asked
   step : (delivery : List ℕ) → Asked
   write : (notes target : List ℕ) → Asked
@@ -61,7 +62,7 @@ pub data Asked : Type 0 where
 
 -- what a call does to the words lent to it, by the definitions to which the contracts of the code set answer and memory equal
 abbrev pub onWords : Asked → (words : List ℕ) → Outcome Answer Whole
-onWords (offer flow) words = outcome ((offerOn words flow) .answer) (whole ((offerOn words flow) .memory) (justWords []))
+onWords (offer who flow) words = outcome ((offerOn who words flow) .answer) (whole ((offerOn who words flow) .memory) (justWords []))
 onWords (offerSet flows) words = outcome ((offerSetOn words flows) .answer) (whole ((offerSetOn words flows) .memory) (justWords []))
 onWords (step delivery) words =
     outcome ((stepOn words delivery) .answer) (whole ((stepOn words delivery) .memory .state) (justWords ((stepOn words delivery) .memory .other)))
@@ -101,7 +102,7 @@ abbrev pub toRecords : Outcome Answer (List Recent) → Outcome Answer Beside
 toRecords o = outcome (o .answer) (justRecords (o .memory))
 
 abbrev pub role : Asked → Role
-role (offer flow) = feeds (Feed.offer flow) []
+role (offer who flow) = feeds (Feed.offer who flow) []
 role (offerSet flows) = feeds (Feed.offerSet flows) []
 role (step delivery) = feeds (Feed.step (length delivery)) delivery
 role (write notes target) = between (λ p b. toWords (bytesOn (planBytes notes p) target)) (justWords target)
@@ -123,7 +124,7 @@ IsList memory [] = Unit {0}
 IsList memory (i ∷ is) =
     ((file : List ℕ) → i .asked ≡ reset file → (onMemory memory i) .answer ≢ Done 0) × IsList ((onMemory memory i) .memory .state) is
 
--- what the book is fed: each offer's flow, each set's flows and each step's length of delivery memory
+-- what the book is fed: who makes each offer and its flow, each set's flows and each step's length of delivery memory
 abbrev pub fedAs : Role → List Call
 fedAs (feeds call other) = call ∷ []
 fedAs (between tells other) = []

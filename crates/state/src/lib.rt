@@ -41,8 +41,6 @@ pub const REGISTER_SIZE: usize = 4;
 pub const ROUTER_SIZE: usize = 8;
 // The routers of the largest torus: 16 by 16.
 pub const MOST_ROUTERS: usize = 256;
-// A flow's most waiting packets.
-pub const MOST_WAITING: u32 = 65535;
 // The clock of the last state.
 pub const LAST_CLOCK: u32 = 4294967295;
 

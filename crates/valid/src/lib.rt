@@ -50,7 +50,7 @@ fn tally_fits(clock: u32, f: Flow, t: Tally) -> bool
     if !b.fits(f.burst, f.period) {
         return false;
     }
-    if state::MOST_WAITING < t.waiting {
+    if flow::MOST_WAITING < t.waiting {
         return false;
     }
     t.entered <= clock

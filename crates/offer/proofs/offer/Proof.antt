@@ -3,6 +3,7 @@ use mathlib.Core.Path.{_≡_, refl, sym, _∙_}
 use mathlib.Core.List.{List}
 use Prim.Native.Nat.{ℕ, _<_}
 use borrow.Author.Needs.{needs}
+use Rattle.flow.specs.declared.Offerer.{Offerer}
 use Rattle.flow.specs.Limits.{offerNumber}
 use Rattle.flow.proofs.Limits.{offer-passes}
 use Rattle.state.specs.State.{tallyAt}
@@ -16,8 +17,8 @@ use Rattle.offer.proofs.offer.Statement.{statement}
 use Rattle.offer.proofs.offer.Tie as tie
 
 -- the flow is one of the plan where 12 isn't given
-named : (w : List ℕ) (f waiting : ℕ) → offerNumber ((stateOf w) .plan) f waiting ≡ 0 → f < countIn w
-named w f waiting e = rw (counted w) at (offer-passes ((stateOf w) .plan) f waiting e .0)
+named : (who : Offerer) (w : List ℕ) (f waiting : ℕ) → offerNumber who ((stateOf w) .plan) f waiting ≡ 0 → f < countIn w
+named who w f waiting e = rw (counted w) at (offer-passes who ((stateOf w) .plan) f waiting e .0)
 
 returns : tie.Need-returns
 unfolding offerOn
@@ -32,7 +33,7 @@ offer-number-requires c κs = state-facts _ (formed (c .before))
 
 -- the number that the definition gives
 number : (c : tie.After-offer-number) → let a = c .before .before .before .before .before .before .args in
-    c .offer-number .result ≡ offerNumber ((stateOf (a .state .now)) .plan) (a .flow) ((tallyAt (stateOf (a .state .now)) (a .flow)) .waiting)
+    c .offer-number .result ≡ offerNumber (a .who) ((stateOf (a .state .now)) .plan) (a .flow) ((tallyAt (stateOf (a .state .now)) (a .flow)) .waiting)
 number c = c .offer-number .ensures
 
 returns-2 : tie.Need-returns-2
@@ -44,7 +45,7 @@ wait-more-requires : tie.Need-wait-more-requires
 wait-more-requires c κs =
     record {
       facts = state-facts _ (formed (c .before .before .before .before));
-      below = named _ _ _ (sym (number (c .before .before)) ∙ c .before .if2 .left);
+      below = named _ _ _ _ (sym (number (c .before .before)) ∙ c .before .if2 .left);
     }
 
 returns-3 : tie.Need-returns-3
