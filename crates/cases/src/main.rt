@@ -1,13 +1,14 @@
-// 01's cases and U4's limits, as a script on standard input: each line is written again, with its answer behind it.
+// 01's cases and the limits of later requests, as a script on standard input: each line is written again, with its answer behind it.
 mod line;
 
+use flow::Offerer;
 use libc::STDIN_FILENO;
 use libc::STDOUT_FILENO;
 use plan::Answer;
 ghost use Prim.Native.Nat.{_≤_, _<_};
 ghost use lib.ListN.{length};
 
-// The words, as their letters' bytes: #, read, window, flight, reset, offer, set, step, write, word, byte.
+// The words, as their letters' bytes: #, read, window, flight, reset, offer, trial, set, step, write, word, byte.
 const NOTE: u64 = 0x23;
 
 const READ: u64 = 0x72656164;
@@ -19,6 +20,8 @@ const FLIGHT: u64 = 0x666c69676874;
 const RESET: u64 = 0x7265736574;
 
 const OFFER: u64 = 0x6f66666572;
+
+const TRIAL: u64 = 0x747269616c;
 
 const SET: u64 = 0x736574;
 
@@ -129,7 +132,8 @@ fn ask(word: u64, file: &[u8], state: &[u32], last: u32) -> Answer {
 fn call(word: u64, file: &[u8], state: &mut [u32], last: u32) -> Answer {
     match word {
         RESET => reset::reset(file, state),
-        OFFER => offer::offer(state, last),
+        OFFER => offer::offer(Offerer::Sonar, state, last),
+        TRIAL => offer::offer(Offerer::Generator, state, last),
         SET => offer_set(state, file.len(), last),
         STEP => step(state, last),
         _ => ask(word, file, state, last),

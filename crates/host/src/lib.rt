@@ -1,9 +1,11 @@
 // The C interface, declared in include/hrt.h: thin, over the calls of plan, bounds, reset, writing, offer, offers, step and feed.
+use flow::Offerer;
 use plan::Answer;
 use recent::Recent;
 ghost use mathlib.Core.Path.{_≡_};
 ghost use Rattle.bounds.specs.Bounds.{windowAnswer, flightBoundAnswer};
 ghost use Rattle.bounds.specs.Inner.{NumberMost};
+ghost use Rattle.flow.specs.declared.Offerer.the-variants.{Sonar, Generator};
 ghost use Rattle.host.specs.Words.{windowWord, answerWord, notesAnswer, inWords};
 ghost use Rattle.state.specs.Outcome.{outcome, lent};
 ghost use Rattle.state.specs.Reset.{resetOn};
@@ -80,9 +82,17 @@ pub extern "C" fn hrt_write(state: &[u32], notes: &[u8], target: &mut [u8]) -> u
 // One packet of a flow.
 #[no_mangle]
 pub extern "C" fn hrt_offer(state: &mut [u32], flow: u32) -> u64
-    ensures { λ r. ⌜ outcome r (now (state .exit)) ≡ inWords (offerOn (now (state .entry)) flow) ⌝ }
+    ensures { λ r. ⌜ outcome r (now (state .exit)) ≡ inWords (offerOn Sonar (now (state .entry)) flow) ⌝ }
 {
-    answer_word(offer::offer(state, flow))
+    answer_word(offer::offer(Offerer::Sonar, state, flow))
+}
+
+// One packet of a flow, for the trial generator.
+#[no_mangle]
+pub extern "C" fn hrt_offer_trial(state: &mut [u32], flow: u32) -> u64
+    ensures { λ r. ⌜ outcome r (now (state .exit)) ≡ inWords (offerOn Generator (now (state .entry)) flow) ⌝ }
+{
+    answer_word(offer::offer(Offerer::Generator, state, flow))
 }
 
 // One packet for each entry of a list of flows, all or none.
