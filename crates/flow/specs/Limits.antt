@@ -12,7 +12,7 @@ use Rattle.flow.specs.Plan.{Plan}
 abbrev pub mostWaiting : ℕ
 mostWaiting = 65535
 
--- as many, where the trial generator may not offer one more
+-- so many waiting packets of a flow stop the trial generator
 abbrev pub mostTrial : ℕ
 mostTrial = 255
 

@@ -11,7 +11,7 @@ pub const MOST_PERIOD: u32 = 16777215;
 pub const MOST_BURST: u32 = 255;
 // A flow's most waiting packets.
 pub const MOST_WAITING: u32 = 65535;
-// As many, where the trial generator may not offer one more.
+// So many waiting packets of a flow stop the trial generator.
 pub const MOST_TRIAL: u32 = 255;
 
 // The six plan numbers of a flow, in record order: source, destination, period P and burst σ.
