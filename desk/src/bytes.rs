@@ -41,7 +41,7 @@ pub fn put_decimal(bytes: &mut [u8], mut number: u32) -> usize {
 }
 
 /// The blank-separated fields of a line, up to a field that starts with #.
-pub fn fields(line: &[u8]) -> impl Iterator<Item = &[u8]> {
+pub fn fields(line: &[u8]) -> impl Iterator<Item = &[u8]> + Clone {
     line.split(|byte| is_blank(*byte))
         .filter(|field| !field.is_empty())
         .take_while(|field| field[0] != b'#')
@@ -49,6 +49,15 @@ pub fn fields(line: &[u8]) -> impl Iterator<Item = &[u8]> {
 
 pub fn is_blank(byte: u8) -> bool {
     byte == b' ' || byte == b'\t'
+}
+
+/// So many fields that are numbers or flows, as part of a sentence.
+pub fn counted(count: usize, name: &str) -> String {
+    match count {
+        0 => format!("no {name}"),
+        1 => format!("one {name}"),
+        _ => format!("{count} {name}s"),
+    }
 }
 
 /// Bytes of the user's as part of a sentence: escaped, and cut if they are long.

@@ -1,8 +1,13 @@
-//! Offers to the archive, of one packet or of a set, and what they are to the flows' tallies.
+//! Offers to the archive, of one packet for the sonar or the trial generator, or of a set, and what they
+//! are to the flows' tallies.
 
 use crate::offers::named;
 use crate::tally::{Broken, Tally};
 use hrt::{Answer, Refusal, State};
+
+/// The refusal of a full queue, by the sonar's calls and by the trial generator's.
+const FULL: u32 = 13;
+const FULL_FOR_TRIAL: u32 = 18;
 
 /// Why an offer ends the run.
 #[derive(Debug, PartialEq, Eq)]
@@ -20,14 +25,37 @@ pub fn offer(
     cycle: u32,
     flow: u32,
 ) -> Result<u64, Wrong> {
+    offer_by(State::offer, FULL, state, tallies, cycle, flow)
+}
+
+/// Offers one packet for the trial generator: how many are accepted, none if too many of its flow wait.
+pub fn offer_trial(
+    state: &mut State,
+    tallies: &mut [Tally],
+    cycle: u32,
+    flow: u32,
+) -> Result<u64, Wrong> {
+    offer_by(State::offer_trial, FULL_FOR_TRIAL, state, tallies, cycle, flow)
+}
+
+/// Offers one packet by this call, whose refusal of a full queue has this number.
+#[inline]
+fn offer_by(
+    call: impl Fn(&mut State, u32) -> Answer,
+    full: u32,
+    state: &mut State,
+    tallies: &mut [Tally],
+    cycle: u32,
+    flow: u32,
+) -> Result<u64, Wrong> {
     let at = flow as usize;
     let waiting = if at < tallies.len() { state.waiting(at) } else { 0 };
-    match state.offer(flow) {
+    match call(state, flow) {
         Answer::Done(_) => {
             tallies[at].accept(cycle, waiting);
             Ok(1)
         }
-        Answer::Refused(Refusal { number: 13, .. }) => {
+        Answer::Refused(Refusal { number, .. }) if number == full => {
             tallies[at].refuse();
             Ok(0)
         }
@@ -62,7 +90,7 @@ pub fn offer_set(
             }
             Ok(flows.len() as u64)
         }
-        Answer::Refused(Refusal { number: 13, .. }) => refuse_set(tallies, flows),
+        Answer::Refused(Refusal { number: FULL, .. }) => refuse_set(tallies, flows),
         Answer::Refused(refusal @ Refusal { number: 12, place })
             if (place as usize) < flows.len() =>
         {
@@ -122,6 +150,14 @@ mod tests {
             Case { state: State::of_words(words).unwrap(), tallies, queues: vec![0; 3] }
         }
 
+        fn one(&mut self, flow: u32) -> Result<u64, Wrong> {
+            offer(&mut self.state, &mut self.tallies, 5, flow)
+        }
+
+        fn trial(&mut self, flow: u32) -> Result<u64, Wrong> {
+            offer_trial(&mut self.state, &mut self.tallies, 5, flow)
+        }
+
         fn set(&mut self, flows: &[u32]) -> Result<u64, Wrong> {
             offer_set(&mut self.state, &mut self.tallies, &mut self.queues, 5, flows)
         }
@@ -176,20 +212,46 @@ mod tests {
         ] {
             assert_eq!(case.set(flows), unknown(flow, refusal));
         }
-        let Case { state, tallies, .. } = &mut case;
-        assert_eq!(offer(state, tallies, 5, 3), unknown("flow 3", " (refused 12 0)"));
+        for told in [case.one(3), case.trial(3)] {
+            assert_eq!(told, unknown("flow 3", " (refused 12 0)"));
+        }
         assert_eq!((case.counts(), case.state), ([(0, 0); 3], before));
     }
 
     #[test]
     fn one_packet_is_accepted_or_refused() {
         let mut case = Case::new([0, 65_534, 0]);
-        let Case { state, tallies, .. } = &mut case;
         for (flow, accepted) in [(1, 1), (1, 0), (0, 1)] {
-            assert_eq!(offer(state, tallies, 5, flow), Ok(accepted));
+            assert_eq!(case.one(flow), Ok(accepted));
         }
         assert_eq!(case.waiting(), [1, 65_535, 0]);
         assert_eq!(case.counts(), [(1, 0), (2, 1), (0, 0)]);
         assert_eq!(case.tallies[1].queues(), [65_534]);
+    }
+
+    #[test]
+    fn the_trial_generator_stops_at_255_waiting() {
+        let mut case = Case::new([0, 253, 65_535]);
+        for (flow, accepted) in [(1, 1), (1, 1), (1, 0), (0, 1), (2, 0)] {
+            assert_eq!(case.trial(flow), Ok(accepted));
+        }
+        assert_eq!(case.waiting(), [1, 255, 65_535]);
+        assert_eq!((case.one(1), case.trial(1), case.set(&[1, 1])), (Ok(1), Ok(0), Ok(2)));
+        assert_eq!(case.waiting(), [1, 258, 65_535]);
+        assert_eq!(case.counts(), [(1, 0), (7, 2), (1, 1)]);
+        assert_eq!(case.tallies[1].queues(), [253, 254, 255, 256, 257]);
+    }
+
+    #[test]
+    fn another_calls_refusal_is_broken() {
+        let refused =
+            |number| move |_: &mut State, _: u32| Answer::Refused(Refusal { number, place: 0 });
+        for (full, other) in [(FULL, FULL_FOR_TRIAL), (FULL_FOR_TRIAL, FULL)] {
+            let Case { mut state, mut tallies, .. } = Case::new([0; 3]);
+            let broken = Err(Wrong::Broken(format!("an offer is refused {other} 0")));
+            assert_eq!(offer_by(refused(full), full, &mut state, &mut tallies, 5, 1), Ok(0));
+            assert_eq!(offer_by(refused(other), full, &mut state, &mut tallies, 5, 1), broken);
+            assert_eq!((tallies[1].offered, tallies[1].refused), (1, 1));
+        }
     }
 }

@@ -1,11 +1,14 @@
-//! A stream of offers: lines `CYCLE FLOW ..`, cycles never going back. One buffer of it is kept.
+//! A stream of offers: lines `CYCLE FLOW ..` and `CYCLE trial FLOW`, cycles never going back. One
+//! buffer of it is kept.
 
-use crate::bytes::{decimal, fields, number, quoted};
+use crate::bytes::{counted, decimal, fields, number, quoted};
 use hrt::limits::LAST_CLOCK;
 use std::io::{self, ErrorKind, Read};
 
-/// What a line is, in messages: a cycle, and one flow or several.
-pub const LINE: &str = "CYCLE FLOW ..";
+/// What a line is, in messages: a cycle, and one flow or several, or one for the trial generator.
+pub const LINE: &str = "CYCLE FLOW .. or CYCLE trial FLOW";
+/// The word in front of the trial generator's flow.
+const TRIAL: &[u8] = b"trial";
 /// A line and its newline fit in a buffer.
 const BUFFER: usize = 1 << 16;
 const LONGEST_LINE: usize = BUFFER - 1;
@@ -23,6 +26,8 @@ pub struct Offer {
 pub enum Of {
     /// One packet of this flow.
     Flow(u32),
+    /// One packet of this flow for the trial generator.
+    Trial(u32),
     /// A packet of each of several flows, all or none. `Offers::set` has them until the next line is
     /// read.
     Set,
@@ -50,7 +55,7 @@ pub struct Offers<R> {
     ended: bool,
     line: u64,
     cycle: u32,
-    /// The flows of the last line that wasn't plain.
+    /// Room for the flows of a set.
     flows: Vec<u32>,
 }
 
@@ -159,42 +164,70 @@ fn short(bytes: &[u8], end: u8) -> Option<(u32, usize)> {
     None
 }
 
-/// The offer of a line, or none of a blank one or a comment. The line's flows are put in `flows`.
+/// The offer of a line, or none of a blank one or a comment. The flows of a set are put in `flows`.
 fn offer(line: &[u8], flows: &mut Vec<u32>) -> Result<Option<Offer>, String> {
     let mut fields = fields(line).peekable();
     let Some(cycle) = fields.next() else {
         return Ok(None);
     };
     if fields.peek().is_none() {
-        let line = quoted(line);
-        return Err(format!("what is '{line}'? a line is {LINE}, as 120 3 or 120 3 4 4"));
+        let (line, right) = (quoted(line), "as 120 3, 120 3 4 4 or 120 trial 3");
+        return Err(format!("what is '{line}'? a line is {LINE}, {right}"));
     }
     let cycle = number(cycle, "the cycle", 0, LAST_CYCLE)?;
-    flows.clear();
-    for field in fields {
-        let flow = match decimal(field).map(u32::try_from) {
-            Some(Ok(flow)) => flow,
-            faulty => return Err(no_flow(line, flows.len(), field, faulty.is_some())),
-        };
-        flows.push(flow);
-    }
-    let of = match flows[..] {
-        [flow] => Of::Flow(flow),
-        _ => Of::Set,
+    let of = match fields.next_if_eq(&TRIAL) {
+        Some(_) => of_trial(fields)?,
+        None => of_flows(fields, flows)?,
     };
     Ok(Some(Offer { cycle, of }))
 }
 
-/// Why the field of a flow, with so many flows before it on the line, gives none.
-fn no_flow(line: &[u8], before: usize, field: &[u8], is_number: bool) -> String {
-    let of_several = (fields(line).count() > 2).then_some(before);
-    match (is_number, of_several) {
-        (true, _) => format!("{} is not in the plan", named(&quoted(field), of_several)),
-        (false, None) => format!("the flow is '{}', which is no whole number", quoted(field)),
-        (false, Some(before)) => {
-            format!("{} is '{}', which is no whole number", place(before), quoted(field))
+/// One packet for the trial generator: the word takes one flow.
+fn of_trial<'a>(mut fields: impl Iterator<Item = &'a [u8]> + Clone) -> Result<Of, String> {
+    let count = fields.clone().count();
+    match (fields.next(), count) {
+        (Some(field), 1) => flow(field, || None).map(Of::Trial),
+        _ => {
+            let flows = counted(count, "flow");
+            Err(format!("trial has {flows} behind it; it takes one: CYCLE trial FLOW"))
         }
     }
+}
+
+/// One packet, or a set, whose flows are put in `flows`.
+fn of_flows<'a>(
+    fields: impl Iterator<Item = &'a [u8]> + Clone,
+    flows: &mut Vec<u32>,
+) -> Result<Of, String> {
+    flows.clear();
+    for field in fields.clone() {
+        let before = flows.len();
+        let of_several = || (fields.clone().count() > 1).then_some(before);
+        flows.push(flow(field, of_several)?);
+    }
+    Ok(match flows[..] {
+        [flow] => Of::Flow(flow),
+        _ => Of::Set,
+    })
+}
+
+/// The flow of a field. A fault is told with how many flows are before it on a line of several.
+#[inline]
+fn flow(field: &[u8], before: impl Fn() -> Option<usize>) -> Result<u32, String> {
+    match decimal(field).map(u32::try_from) {
+        Some(Ok(flow)) => Ok(flow),
+        faulty => Err(no_flow(field, before(), faulty.is_some())),
+    }
+}
+
+/// Why a field, with so many flows before it on a line of several, is no flow.
+fn no_flow(field: &[u8], before: Option<usize>, is_number: bool) -> String {
+    let field = quoted(field);
+    if is_number {
+        return format!("{} is not in the plan", named(&field, before));
+    }
+    let flow = before.map_or("the flow".to_string(), place);
+    format!("{flow} is '{field}', which is no whole number; a line is {LINE}")
 }
 
 /// A flow as a message names it: by its number, and by its place on a line of several.
@@ -235,18 +268,33 @@ mod tests {
         }
     }
 
-    /// Each line's cycle and flows, and how the stream ends.
-    fn all(input: impl Read) -> (Vec<(u32, Vec<u32>)>, Next) {
+    /// A line's offer, and the flows of its set.
+    type Found = (Offer, Vec<u32>);
+
+    fn one(cycle: u32, flow: u32) -> Found {
+        (Offer { cycle, of: Of::Flow(flow) }, Vec::new())
+    }
+
+    fn trial(cycle: u32, flow: u32) -> Found {
+        (Offer { cycle, of: Of::Trial(flow) }, Vec::new())
+    }
+
+    fn set(cycle: u32, flows: &[u32]) -> Found {
+        (Offer { cycle, of: Of::Set }, flows.to_vec())
+    }
+
+    /// What each line offers, and how the stream ends.
+    fn all(input: impl Read) -> (Vec<Found>, Next) {
         let mut offers = Offers::of("offers".to_string(), input);
         let mut found = Vec::new();
         loop {
             match offers.next() {
                 Next::Later => offers.read_on().unwrap(),
-                Next::Offer(Offer { cycle, of: Of::Flow(flow) }) => found.push((cycle, vec![flow])),
-                Next::Offer(Offer { cycle, of: Of::Set }) => {
+                Next::Offer(offer @ Offer { of: Of::Set, .. }) => {
                     assert!(offers.set().len() > 1);
-                    found.push((cycle, offers.set().to_vec()));
+                    found.push((offer, offers.set().to_vec()));
                 }
+                Next::Offer(offer) => found.push((offer, Vec::new())),
                 last => return (found, last),
             }
         }
@@ -261,43 +309,77 @@ mod tests {
             "0 0\r\n# x\n 1\t2 # y\n\n4294967294 007\n",
             "0 0\n1 1 1\n2 2",
             "0 5 6\r\n1 1\n3  2\t1 1 # 4\n3 1 1",
+            "0 trial 5\r\n1 1\n3  trial\t1 # 4\n3 trial 007",
             "0 0\n1 1 x\n2 2",
+            "0 0\n1 trial 1 1\n2 2",
             "9 0\n8 0\n",
         ] {
             assert_eq!(all(text.as_bytes()), all(Slow(text.as_bytes(), false)), "{text}");
         }
         let found = all("0 0\r\n# x\n 1\t2 # y\n\n4294967294 007\n".as_bytes());
-        let offers = [(0, vec![0]), (1, vec![2]), (4294967294, vec![7])];
+        let offers = [one(0, 0), one(1, 2), one(4294967294, 7)];
         assert_eq!(found, (offers.to_vec(), Next::End));
     }
 
     #[test]
     fn a_line_may_have_several_flows() {
         let found = all("0 5 6\r\n1 1\n3  2\t1 1 # 4\n3 4294967295 007".as_bytes());
-        let offers = [(0, vec![5, 6]), (1, vec![1]), (3, vec![2, 1, 1]), (3, vec![4294967295, 7])];
+        let offers = [set(0, &[5, 6]), one(1, 1), set(3, &[2, 1, 1]), set(3, &[4294967295, 7])];
         assert_eq!(found, (offers.to_vec(), Next::End));
     }
 
     #[test]
+    fn a_line_may_be_the_trial_generators() {
+        let found = all("0 trial 5\r\n1 1\n3  trial\t1 # 4\n3 2 2\n3 trial 007".as_bytes());
+        let offers = [trial(0, 5), one(1, 1), trial(3, 1), set(3, &[2, 2]), trial(3, 7)];
+        assert_eq!(found, (offers.to_vec(), Next::End));
+    }
+
+    /// A faulty second line that has this behind its cycle.
+    fn faulty(behind: &str, fault: &str) {
+        let text = format!("3 1 2\n4 {behind}\n");
+        let fault = Next::Fault(format!("offers:2: {fault}"));
+        assert_eq!(all(text.as_bytes()), (vec![set(3, &[1, 2])], fault), "{behind}");
+    }
+
+    fn no_number(flow: &str) -> String {
+        format!("{flow}, which is no whole number; a line is CYCLE FLOW .. or CYCLE trial FLOW")
+    }
+
+    #[test]
     fn a_faulty_flow_is_told_with_its_place() {
-        let no_number = |flow: &str| format!("{flow}, which is no whole number");
         let eleven = "9 ".repeat(10) + "x";
-        for (flows, fault) in [
-            ("x", no_number("the flow is 'x'")),
-            ("x # y", no_number("the flow is 'x'")),
-            ("x 0", no_number("the line's 1st flow is 'x'")),
-            ("0 -1 y", no_number("the line's 2nd flow is '-1'")),
-            ("0 1 2,3", no_number("the line's 3rd flow is '2,3'")),
-            (&eleven, no_number("the line's 11th flow is 'x'")),
-            ("4294967296", "flow 4294967296 is not in the plan".to_string()),
-            (
-                "0 4294967296",
-                "flow 4294967296, the line's 2nd flow, is not in the plan".to_string(),
-            ),
+        for (flows, flow) in [
+            ("x", "the flow is 'x'"),
+            ("x # y", "the flow is 'x'"),
+            ("x 0", "the line's 1st flow is 'x'"),
+            ("0 -1 y", "the line's 2nd flow is '-1'"),
+            ("0 1 2,3", "the line's 3rd flow is '2,3'"),
+            (&eleven, "the line's 11th flow is 'x'"),
         ] {
-            let text = format!("3 1 2\n4 {flows}\n");
-            let fault = Next::Fault(format!("offers:2: {fault}"));
-            assert_eq!(all(text.as_bytes()), (vec![(3, vec![1, 2])], fault), "{flows}");
+            faulty(flows, &no_number(flow));
+        }
+        faulty("4294967296", "flow 4294967296 is not in the plan");
+        faulty("0 4294967296", "flow 4294967296, the line's 2nd flow, is not in the plan");
+    }
+
+    #[test]
+    fn a_faulty_trial_line_is_told() {
+        let count = |flows| format!("trial has {flows} behind it; it takes one: CYCLE trial FLOW");
+        for (behind, fault) in [
+            ("trial", count("no flow")),
+            ("trial # 0", count("no flow")),
+            ("trial 0 1", count("2 flows")),
+            ("trial trial 0", count("2 flows")),
+            ("trial 0 x 1", count("3 flows")),
+            ("trial x", no_number("the flow is 'x'")),
+            ("trial trial", no_number("the flow is 'trial'")),
+            ("trial0", no_number("the flow is 'trial0'")),
+            ("Trial 0", no_number("the line's 1st flow is 'Trial'")),
+            ("0 trial", no_number("the line's 2nd flow is 'trial'")),
+            ("trial 4294967296", "flow 4294967296 is not in the plan".to_string()),
+        ] {
+            faulty(behind, &fault);
         }
     }
 
@@ -312,12 +394,12 @@ mod tests {
 
     #[test]
     fn no_line_is_kept_that_is_too_long() {
-        let set = "0".to_string() + &" 7".repeat((BUFFER - 2) / 2);
-        assert_eq!(set.len(), LONGEST_LINE);
-        let text = "#".repeat(LONGEST_LINE) + "\n0 0\n" + &set + "\n" + &set + " \n";
+        let longest = "0".to_string() + &" 7".repeat((BUFFER - 2) / 2);
+        assert_eq!(longest.len(), LONGEST_LINE);
+        let text = "#".repeat(LONGEST_LINE) + "\n0 0\n" + &longest + "\n" + &longest + " \n";
         let (found, last) = all(text.as_bytes());
-        assert_eq!(found, [(0, vec![0]), (0, vec![7; (BUFFER - 2) / 2])]);
-        let wrong = "the line is too long; a line is CYCLE FLOW .., in at most 65535 bytes";
-        assert_eq!(last, Next::Fault(format!("offers:4: {wrong}")));
+        assert_eq!(found, [one(0, 0), set(0, &[7; (BUFFER - 2) / 2])]);
+        let line = "a line is CYCLE FLOW .. or CYCLE trial FLOW, in at most 65535 bytes";
+        assert_eq!(last, Next::Fault(format!("offers:4: the line is too long; {line}")));
     }
 }

@@ -3,7 +3,7 @@
 use crate::end::End;
 use crate::ending::Ending;
 use crate::input::{self, is_standard, read_plan};
-use crate::offering::{offer, offer_set, Wrong};
+use crate::offering::{offer, offer_set, offer_trial, Wrong};
 use crate::offers::{Next, Of, Offer, Offers, LINE};
 use crate::output::Output;
 use crate::plan::cant_print;
@@ -172,6 +172,7 @@ impl<R: Read> Run<R> {
         let Run { state, tallies, queues, offers, .. } = self;
         let (packets, accepted) = match line.of {
             Of::Flow(flow) => (1, offer(state, tallies, line.cycle, flow)),
+            Of::Trial(flow) => (1, offer_trial(state, tallies, line.cycle, flow)),
             Of::Set => {
                 let flows = offers.set();
                 (flows.len() as u64, offer_set(state, tallies, queues, line.cycle, flows))
@@ -343,6 +344,36 @@ mod tests {
         run.cycles = None;
         assert_eq!(run.go_to_end().unwrap(), End::Left);
         assert_eq!((run.offered, run.left, run.here), (5, 5, 0));
+    }
+
+    #[test]
+    fn a_trial_line_is_offered_in_its_cycle() {
+        let mut run = run_from(0, "0 trial 0\n4 0\n4 trial 0\n");
+        run.cycles = Some(4);
+        assert_eq!(run.go_to_end().unwrap(), End::Cycles);
+        assert_eq!((run.offered, run.left, run.here), (1, 0, 1));
+        run.cycles = None;
+        assert_eq!(run.go_to_end().unwrap(), End::Left);
+        assert_eq!((run.offered, run.left, run.here), (3, 3, 0));
+    }
+
+    #[test]
+    fn a_refused_trial_line_is_counted() {
+        let mut run = run_from(0, "0 0\n0 trial 0\n0 0\n0 trial 0");
+        let mut words = run.state.words().to_vec();
+        words[17] = 254;
+        run.state = State::of_words(words).unwrap();
+        assert_eq!(run.offer_all().unwrap(), None);
+        assert_eq!((run.offered, run.here, run.tallies[0].refused), (4, 2, 2));
+        assert_eq!(run.state.waiting(0), 256);
+    }
+
+    #[test]
+    fn a_faulty_trial_line_is_told_with_its_line() {
+        let mut run = run_from(0, "0 0\n4 trial 1\n");
+        let text = "flow 1 is not in the plan; its flows are 0 to 0 (refused 12 0)";
+        assert_eq!(run.go_to_end().unwrap(), End::Fault(format!("offers:2: {text}")));
+        assert_eq!((run.state.clock(), run.offered, run.here), (4, 1, 1));
     }
 
     #[test]

@@ -1,6 +1,6 @@
 //! A plan as text: `torus SX SY`, `flow XS YS XD YD P SIGMA`, `note TEXT`, `#` and blank lines.
 
-use crate::bytes::{escaped, fields, is_blank, number, quoted, unescaped};
+use crate::bytes::{counted, escaped, fields, is_blank, number, quoted, unescaped};
 use hrt::limits::{
     MOST_BURST, MOST_FLOWS, MOST_PERIOD, MOST_PLAN_BYTES, MOST_SIDE, RECORD_BYTES, TRAILER_BYTES,
 };
@@ -111,7 +111,7 @@ impl Reader {
         }
         self.torus_line = Some(self.line);
         let [sx, sy] = numbers[..] else {
-            let count = counted(numbers.len());
+            let count = counted(numbers.len(), "number");
             self.fault(format!("torus has {count} behind it; it takes two: torus SX SY"));
             return;
         };
@@ -125,7 +125,7 @@ impl Reader {
     fn flow(&mut self, numbers: &[&[u8]]) {
         self.flow_lines += 1;
         let [xs, ys, xd, yd, period, burst] = numbers[..] else {
-            let count = counted(numbers.len());
+            let count = counted(numbers.len(), "number");
             self.fault(format!(
                 "flow has {count} behind it; it takes six: flow XS YS XD YD P SIGMA"
             ));
@@ -198,14 +198,6 @@ impl Reader {
 fn coordinate(field: &[u8], name: &str, axis: &str, size: u32) -> Result<u32, String> {
     number(field, &format!("{name}, a {axis},"), 0, size - 1)
         .map_err(|wrong| format!("{wrong} on a torus of {size} {axis}s"))
-}
-
-fn counted(numbers: usize) -> String {
-    match numbers {
-        0 => "no number".to_string(),
-        1 => "one number".to_string(),
-        _ => format!("{numbers} numbers"),
-    }
 }
 
 /// The text of a mode: `read` gives the mode back.
