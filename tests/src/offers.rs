@@ -1,9 +1,12 @@
-//! Offers to the packet book: one packet, by 01, and a set of them, by U4.
+//! Offers to the packet book: one packet, by 01, one of the trial generator, by U6, and a set of them,
+//! by U4.
 
 use crate::book::{Book, Line};
 use crate::plan::{Refusal, refuse};
 
 pub const MOST_WAITING: usize = 65_535;
+/// With so many of the flow waiting, the trial generator is refused.
+pub const MOST_TRIAL: usize = 255;
 
 impl Book {
     pub fn offer(&mut self, flow: u32) -> Result<u64, Refusal> {
@@ -13,6 +16,14 @@ impl Book {
         }
         self.add_waiting_line(flow);
         Ok(0)
+    }
+
+    /// A packet of the trial generator: its full queue is 18, checked after 12.
+    pub fn offer_trial(&mut self, flow: u32) -> Result<u64, Refusal> {
+        if self.waiting.get(flow as usize).is_some_and(|waiting| waiting.len() >= MOST_TRIAL) {
+            return refuse(18, 0);
+        }
+        self.offer(flow)
     }
 
     /// A set: the first entry that would be refused gives its number and its position, the entries

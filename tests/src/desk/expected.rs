@@ -1,10 +1,12 @@
-//! What `run` prints, by the packet book's lines, U1's records and U4's sets of flows.
+//! What `run` prints, by the packet book's lines, U1's records, U4's sets of flows and U6's trial
+//! generator.
 
 use crate::book::{Book, Line};
 use crate::offers::MOST_WAITING;
-use crate::plan::Plan;
+use crate::plan::{Plan, Refusal};
 use crate::recent::{Record, feed};
 use crate::window::{flight_bound, window};
+use std::collections::HashMap;
 use std::fmt::Write;
 
 /// A stream's next line.
@@ -12,6 +14,8 @@ use std::fmt::Write;
 pub enum Entry {
     /// A packet for each flow that is named: every one is accepted or none is.
     Offer { cycle: i64, flows: Vec<u32> },
+    /// A packet for the trial generator.
+    Trial { cycle: i64, flow: u32 },
     /// A line that is no offer of this plan, or goes back.
     Fault,
 }
@@ -29,6 +33,8 @@ struct Run {
     book: Book,
     offered: Vec<u64>,
     refused: Vec<u64>,
+    /// The book's line of each packet, by its flow and serial.
+    by_packet: HashMap<(usize, i64), usize>,
     /// The book's lines in the order of their exits.
     exits: Vec<usize>,
     /// The flows' last deliveries, if they are asked for.
@@ -59,13 +65,8 @@ pub fn printed(plan: &Plan, entries: &[Entry], options: Options) -> String {
 }
 
 fn ran(plan: &Plan, entries: &[Entry], options: Options) -> Run {
-    let flows = plan.flows.len();
-    let (offered, refused) = (vec![0; flows], vec![0; flows]);
-    let book = Book::new(plan.clone());
-    let records = options.recent.map(|_| vec![Record::default(); flows]);
-    let mut run = Run { book, offered, refused, exits: Vec::new(), records, end: "" };
+    let mut run = Run::new(plan, options);
     let mut entries = entries.iter().peekable();
-    let mut by_packet = std::collections::HashMap::new();
     loop {
         let clock = run.book.clock;
         if options.cycles == Some(clock) {
@@ -74,26 +75,15 @@ fn ran(plan: &Plan, entries: &[Entry], options: Options) -> Run {
         }
         while let Some(entry) = entries.peek() {
             match entry {
-                Entry::Offer { cycle, .. } if *cycle > clock => break,
-                Entry::Offer { flows, .. } => {
-                    let has_room = has_room(&run.book, flows);
-                    for &flow in flows {
-                        run.offered[flow as usize] += 1;
-                        if !has_room {
-                            run.refused[flow as usize] += 1;
-                            continue;
-                        }
-                        run.book.offer(flow).unwrap();
-                        let line = run.book.lines.last().unwrap();
-                        by_packet.insert((line.flow, line.serial), run.book.lines.len() - 1);
-                    }
-                    entries.next();
-                }
+                Entry::Offer { cycle, .. } | Entry::Trial { cycle, .. } if *cycle > clock => break,
+                Entry::Offer { flows, .. } => run.offer(flows),
+                Entry::Trial { flow, .. } => run.offer_trial(*flow),
                 Entry::Fault => {
                     run.end = "at a faulty line";
                     return run;
                 }
             }
+            entries.next();
         }
         let all_left = run.book.placed.is_empty() && run.book.waiting.iter().all(|w| w.is_empty());
         if entries.peek().is_none() && all_left {
@@ -102,11 +92,53 @@ fn ran(plan: &Plan, entries: &[Entry], options: Options) -> Run {
         }
         for delivery in run.book.step(5 * plan.routers()).unwrap() {
             let [flow, serial, ..] = delivery;
-            run.exits.push(by_packet[&(flow as usize, serial as i64)]);
+            run.exits.push(run.by_packet[&(flow as usize, serial as i64)]);
             if let (Some(records), Some(last)) = (&mut run.records, options.recent) {
                 feed(records, delivery, last);
             }
         }
+    }
+}
+
+impl Run {
+    fn new(plan: &Plan, options: Options) -> Run {
+        let flows = plan.flows.len();
+        Run {
+            book: Book::new(plan.clone()),
+            offered: vec![0; flows],
+            refused: vec![0; flows],
+            by_packet: HashMap::new(),
+            exits: Vec::new(),
+            records: options.recent.map(|_| vec![Record::default(); flows]),
+            end: "",
+        }
+    }
+
+    fn offer(&mut self, flows: &[u32]) {
+        let has_room = has_room(&self.book, flows);
+        for &flow in flows {
+            if has_room {
+                self.book.offer(flow).unwrap();
+            }
+            self.count(flow, has_room);
+        }
+    }
+
+    fn offer_trial(&mut self, flow: u32) {
+        let answer = self.book.offer_trial(flow);
+        assert!(matches!(answer, Ok(0) | Err(Refusal { number: 18, place: 0 })), "{answer:?}");
+        self.count(flow, answer.is_ok());
+    }
+
+    /// Counts a packet that was offered. An accepted one has the book's last line.
+    fn count(&mut self, flow: u32, accepted: bool) {
+        self.offered[flow as usize] += 1;
+        if !accepted {
+            self.refused[flow as usize] += 1;
+            return;
+        }
+        let line = self.book.lines.last().unwrap();
+        self.by_packet.insert((line.flow, line.serial), self.book.lines.len() - 1);
     }
 }
 

@@ -3,7 +3,8 @@
 
 use super::expected::{Entry, Options, printed};
 use super::program::{Program, same_lines, write};
-use super::sets::{self, LINE};
+use super::streams::{EXAMPLES, LINE, sample};
+use super::{sets, trials};
 use crate::compare::Tally;
 use crate::plan::{Flow, Plan};
 use std::fs;
@@ -153,39 +154,47 @@ pub fn texts(program: &Program, tally: &mut Tally) {
 
 /// Each faulty line ends the run with status 2, after the table so far.
 pub fn streams(program: &Program, tally: &mut Tally) {
-    let flows = [[1, 0, 2, 0, 10, 1], [0, 0, 3, 0, 10, 1]].map(Flow::from_numbers);
-    let plan = Plan { sx: 4, sy: 4, flows: flows.to_vec() };
+    let plan = sample();
     write(&program.file("mode.plan"), &plan.file(b""));
     let [first, second] =
         [(0, 0), (6, 1)].map(|(cycle, flow)| Entry::Offer { cycle, flows: vec![flow] });
     let options = Options { cycles: None, recent: None, summary: false };
     let expected = printed(&plan, &[first, second, Entry::Fault], options);
     let last = "it must be 0 to 4294967294";
-    let long = "the line is too long; a line is CYCLE FLOW .., in at most 65535 bytes";
-    let no_number = |what: &str| format!("{what}, which is no whole number");
+    let long = format!("the line is too long; {LINE}, in at most 65535 bytes");
+    let what = |line: &str| format!("what is '{line}'? {LINE}, {EXAMPLES}");
+    let no_cycle =
+        |cycle: &str| format!("the cycle is '{cycle}', which is no whole number; {last}");
+    let no_flow = |flow: &str| format!("{flow}, which is no whole number; {LINE}");
     let single = [
-        ("7", format!("what is '7'? {LINE}")),
-        ("seven", format!("what is 'seven'? {LINE}")),
-        ("7 # 0", format!("what is '7 # 0'? {LINE}")),
-        ("x 0", format!("{}; {last}", no_number("the cycle is 'x'"))),
-        ("x 0 0", format!("{}; {last}", no_number("the cycle is 'x'"))),
-        ("-1 0", format!("{}; {last}", no_number("the cycle is '-1'"))),
+        ("7", what("7")),
+        ("seven", what("seven")),
+        ("trial", what("trial")),
+        ("7 # 0", what("7 # 0")),
+        ("x 0", no_cycle("x")),
+        ("x 0 0", no_cycle("x")),
+        ("x trial", no_cycle("x")),
+        ("trial 7 0", no_cycle("trial")),
+        ("-1 0", no_cycle("-1")),
         ("4294967295 0", format!("the cycle is 4294967295; {last}")),
         ("4294967295 0 1", format!("the cycle is 4294967295; {last}")),
+        ("4294967295 trial 0", format!("the cycle is 4294967295; {last}")),
         ("99999999999999999999 0", format!("the cycle is 99999999999999999999; {last}")),
-        ("7 -1", no_number("the flow is '-1'")),
-        ("7 0,1", no_number("the flow is '0,1'")),
-        ("7 -1 # 0", no_number("the flow is '-1'")),
-        ("7 0 1 x 0 # 1", no_number("the line's 3rd flow is 'x'")),
+        ("7 -1", no_flow("the flow is '-1'")),
+        ("7 0,1", no_flow("the flow is '0,1'")),
+        ("7 -1 # 0", no_flow("the flow is '-1'")),
+        ("7 0 1 x 0 # 1", no_flow("the line's 3rd flow is 'x'")),
         ("6 2", "flow 2 is not in the plan; its flows are 0 to 1 (refused 12 0)".to_string()),
         ("7 4294967296", "flow 4294967296 is not in the plan".to_string()),
         ("5 0", "cycle 5 comes after cycle 6; cycles never go back".to_string()),
         ("5 0 1", "cycle 5 comes after cycle 6; cycles never go back".to_string()),
-        (&"#".repeat(70_000), long.to_string()),
-        (&format!("7{}", " 0".repeat(32_768)), long.to_string()),
+        ("5 trial 0", "cycle 5 comes after cycle 6; cycles never go back".to_string()),
+        (&"#".repeat(70_000), long.clone()),
+        (&format!("7{}", " 0".repeat(32_768)), long.clone()),
+        (&format!("7 trial 0{}", " ".repeat(65_527)), long),
     ];
     let single = single.map(|(line, fault)| (line.to_string(), fault));
-    let cases = single.into_iter().chain(sets::faulty(6));
+    let cases = single.into_iter().chain(sets::faulty(6)).chain(trials::faulty(6, 2));
     for (line, fault) in cases {
         write(&program.file("offers"), format!("# two offers\n0 0\n6 1\n{line}\n6 0\n").as_bytes());
         let got = program.call(tally, &["run", "mode.plan", "offers"], b"");

@@ -1,5 +1,6 @@
 //! The desk program beside the second simulator: what `run` prints for random plans and streams, the
-//! round trip of `show` and `plan`, each fault of texts and streams, long periods, and how it ends.
+//! round trip of `show` and `plan`, each fault of texts and streams, long periods, lines of several
+//! flows and of the trial generator, and how it ends.
 
 mod ends;
 pub mod expected;
@@ -9,6 +10,7 @@ pub mod program;
 mod sets;
 mod streams;
 mod texts;
+mod trials;
 
 use crate::compare::Tally;
 use crate::compare::parts::{Extent, rounds};
@@ -36,6 +38,10 @@ pub fn calls(program: &Program, tally: &mut Tally, extent: Extent) {
     periods::texts(program, tally);
     periods::refused(program, tally);
     periods::runs(program, tally);
+    trials::alone(program, tally);
+    trials::beside_the_sonar(program, tally);
+    trials::full_queue(program, tally);
+    trials::queues(program, tally);
     sets::full_queues(program, tally);
     rounds("desk", tally, extent, |tally, random, sx, sy| {
         texts::round(program, tally, random, sx, sy);

@@ -3,13 +3,9 @@
 
 use super::expected::Options;
 use super::program::Program;
-use super::streams::{Stream, compare};
+use super::streams::{LINE, Stream, compare, sample};
 use crate::compare::Tally;
-use crate::plan::{Flow, Plan};
 use crate::random::{self, Random};
-
-/// What a line is, as a fault says it.
-pub const LINE: &str = "a line is CYCLE FLOW .., as 120 3 or 120 3 4 4";
 
 /// What is wrong with a flow of a line.
 #[derive(Clone, Copy, Debug)]
@@ -45,7 +41,7 @@ impl Fault {
         match self {
             Fault::NoNumber => {
                 let flow = place.unwrap_or("the flow".to_string());
-                format!("{flow} is '{wrong}', which is no whole number")
+                format!("{flow} is '{wrong}', which is no whole number; {LINE}")
             }
             Fault::TooLarge => unknown,
             Fault::Unknown => {
@@ -77,20 +73,18 @@ pub fn faulty(cycle: i64) -> Vec<(String, String)> {
 
 /// Packets of one line wait behind each other: the bound of each has its own q.
 pub fn behind_each_other(program: &Program, tally: &mut Tally) {
-    let flows = [[1, 0, 2, 0, 10, 1], [0, 0, 3, 0, 10, 1]].map(Flow::from_numbers);
-    let plan = Plan { sx: 4, sy: 4, flows: flows.to_vec() };
     let options = Options { cycles: None, recent: None, summary: true };
     for lines in [
         vec![(0, vec![1, 1])],
         vec![(0, vec![1, 0, 1, 1, 0])],
         vec![(0, vec![1]), (0, vec![1, 0, 1]), (3, vec![1, 1, 0]), (3, vec![0])],
     ] {
-        compare(program, tally, &plan, &Stream::of(lines), options);
+        compare(program, tally, &sample(), &Stream::of(lines), options);
     }
 }
 
 /// The longest line of one flow: with its newline it has 65,536 bytes.
-const LONGEST: usize = 32_767;
+pub const LONGEST: usize = 32_767;
 
 /// A queue that lines of several flows fill to its last place. Where one packet of a line finds no
 /// room, none of them is accepted, and the run goes on.

@@ -2,10 +2,21 @@
 
 use super::expected::{Entry, Options, printed};
 use super::program::{Program, same_lines, write};
-use super::sets::{Fault, LINE};
+use super::sets::Fault;
+use super::trials;
 use crate::compare::Tally;
-use crate::plan::Plan;
+use crate::plan::{Flow, Plan};
 use crate::random::{self, Random};
+
+/// What a line is, as a fault says it, and examples of it.
+pub const LINE: &str = "a line is CYCLE FLOW .. or CYCLE trial FLOW";
+pub const EXAMPLES: &str = "as 120 3, 120 3 4 4 or 120 trial 3";
+
+/// The plan of 01's sample listing: two flows in a row, with T 3 and 1.
+pub fn sample() -> Plan {
+    let flows = [[1, 0, 2, 0, 10, 1], [0, 0, 3, 0, 10, 1]].map(Flow::from_numbers);
+    Plan { sx: 4, sy: 4, flows: flows.to_vec() }
+}
 
 /// A stream: its entries, their text, and what is told of its last line if that is faulty.
 pub struct Stream {
@@ -17,12 +28,14 @@ pub struct Stream {
 impl Stream {
     /// A line for each of these cycles and flows.
     pub fn of(lines: Vec<(i64, Vec<u32>)>) -> Stream {
-        let mut text = String::new();
-        for (cycle, flows) in &lines {
-            text += &format!("{cycle} {}\n", joined(flows, " "));
-        }
         let entry = |(cycle, flows)| Entry::Offer { cycle, flows };
-        Stream { entries: lines.into_iter().map(entry).collect(), text, told: None }
+        Stream::of_entries(lines.into_iter().map(entry).collect())
+    }
+
+    /// A line for each of these entries.
+    pub fn of_entries(entries: Vec<Entry>) -> Stream {
+        let text = entries.iter().map(|entry| words(entry).join(" ") + "\n").collect();
+        Stream { entries, text, told: None }
     }
 
     /// The stream with one more line, which is faulty.
@@ -35,8 +48,15 @@ impl Stream {
     }
 }
 
-fn joined(flows: &[u32], blank: &str) -> String {
-    flows.iter().map(u32::to_string).collect::<Vec<_>>().join(blank)
+/// The words of an offer's line: its cycle first.
+fn words(entry: &Entry) -> Vec<String> {
+    match entry {
+        Entry::Offer { cycle, flows } => {
+            [cycle.to_string()].into_iter().chain(flows.iter().map(u32::to_string)).collect()
+        }
+        Entry::Trial { cycle, flow } => vec![cycle.to_string(), "trial".into(), flow.to_string()],
+        Entry::Fault => panic!("a faulty line has its own text"),
+    }
 }
 
 /// A short stream of a random plan, seldom a long one.
@@ -57,19 +77,22 @@ pub fn round(program: &Program, tally: &mut Tally, random: &mut Random, sx: i64,
 fn is_long(plan: &Plan, stream: &Stream) -> bool {
     let packets = |entry: &Entry| match entry {
         Entry::Offer { flows, .. } => flows.len() as i64,
+        Entry::Trial { .. } => 1,
         Entry::Fault => 0,
     };
     let packets: i64 = stream.entries.iter().map(packets).sum();
     plan.flows.iter().any(|flow| flow.period * packets > 20_000)
 }
 
-/// Lines of one flow or several, with blanks, comments and either end of line.
+/// Lines of one flow or several and of the trial generator, with blanks, comments and either end of
+/// line.
 fn stream(random: &mut Random, plan: &Plan, lines: usize) -> Stream {
     let count = plan.flows.len();
     let mut stream = Stream::of(Vec::new());
     let newline = random.pick(&["\n", "\r\n"]);
     let gap = random.pick(&[0, 1, 3, 40]);
     let several = random.pick(&[0, 10, 50]);
+    let trials = random.pick(&[0, 10, 60]);
     let mut cycle = 0;
     for _ in 0..lines {
         if random.percent(50) {
@@ -78,14 +101,18 @@ fn stream(random: &mut Random, plan: &Plan, lines: usize) -> Stream {
         if random.percent(2) {
             cycle += random.from(0, 300);
         }
-        let flows = flows(random, count, several);
+        let entry = if random.percent(trials) {
+            Entry::Trial { cycle, flow: random.index(count) as u32 }
+        } else {
+            Entry::Offer { cycle, flows: flows(random, count, several) }
+        };
         if random.percent(3) {
             stream.text += random.pick(&["# nothing", "", " \t", "#", "  # 9 9"]);
             stream.text += newline;
         }
-        stream.text += &line(random, cycle, &flows);
+        stream.text += &line(random, &words(&entry));
         stream.text += newline;
-        stream.entries.push(Entry::Offer { cycle, flows });
+        stream.entries.push(entry);
     }
     if random.percent(20) {
         let (line, told) = faulty(random, count, cycle);
@@ -107,24 +134,34 @@ fn flows(random: &mut Random, count: usize, several: i64) -> Vec<u32> {
     flows
 }
 
-/// A line's text.
-fn line(random: &mut Random, cycle: i64, flows: &[u32]) -> String {
+/// The text of a line with these words.
+fn line(random: &mut Random, words: &[String]) -> String {
     match random.from(0, 19) {
-        0 => format!(" {cycle}\t {} ", joined(flows, "\t ")),
-        1 => format!("{cycle} {} # from head {}", joined(flows, " "), flows[0]),
-        2 => format!("00{cycle:012} 0{}", joined(flows, " 0")),
-        _ => format!("{cycle} {}", joined(flows, " ")),
+        0 => format!(" {} ", words.join("\t ")),
+        1 => format!("{} # from head {}", words.join(" "), words[1]),
+        2 => {
+            let padded = |word: &String| match word.parse::<u32>() {
+                Ok(number) => format!("{number:014}"),
+                Err(_) => word.clone(),
+            };
+            words.iter().map(padded).collect::<Vec<_>>().join(" ")
+        }
+        _ => words.join(" "),
     }
 }
 
 /// A faulty line behind one of this cycle, and what is told of it.
 fn faulty(random: &mut Random, count: usize, cycle: i64) -> (String, String) {
-    match random.from(0, 5) {
-        0 => (cycle.to_string(), format!("what is '{cycle}'? {LINE}")),
+    match random.from(0, 6) {
+        0 => (cycle.to_string(), format!("what is '{cycle}'? {LINE}, {EXAMPLES}")),
         1 if cycle > 0 => {
             let back = cycle - 1;
             let told = format!("cycle {back} comes after cycle {cycle}; cycles never go back");
-            (format!("{back} {}", random.pick(&["0", "0 0"])), told)
+            (format!("{back} {}", random.pick(&["0", "0 0", "trial 0"])), told)
+        }
+        2 => {
+            let mut lines = trials::faulty(cycle, count);
+            lines.swap_remove(random.index(lines.len()))
         }
         _ => {
             let flows = 1 + random.index(5);
