@@ -70,7 +70,8 @@ static int print_bounds(size_t bytes, uint32_t flows, uint64_t *flights)
     return 0;
 }
 
-/* Offers one packet of each flow: all are accepted or none is. hrt_offer offers a single packet. */
+/* Offers one packet of each flow: all are accepted or none is. hrt_offer offers a single packet, and
+ * hrt_offer_trial one for a trial's traffic generator. */
 static int ping(uint32_t flows)
 {
     static uint32_t list[HRT_MOST_FLOWS];
