@@ -8,8 +8,10 @@ mod faults {
     pub mod recent;
     pub mod records;
     pub mod sets;
+    pub mod simulator;
 }
 
+use faults::simulator::{Calls, Host};
 use second::compare::listing;
 use second::compare::parts::{self, Extent};
 use second::plan::change_records;
@@ -21,42 +23,39 @@ use std::process::Command;
 /// A fault's name, and the comparison of a simulator that has it.
 type Planted<'a> = (String, Box<dyn Fn() + 'a>);
 
+/// A fault of the engine, which has these calls.
+fn of_the_engine(name: impl Into<String>, calls: impl Calls + 'static) -> Planted<'static> {
+    let host = Host(calls);
+    (name.into(), Box::new(move || drop(parts::engine(&host, 1, Extent::Gate))))
+}
+
 fn in_the_engine() -> Vec<Planted<'static>> {
     use faults::engine::{FAULTS, Faulty, JUDGED, JUDGES};
-    let mut planted: Vec<Planted> = Vec::new();
-    let mut plant = |name: String, host: Faulty| {
-        planted.push((name, Box::new(move || drop(parts::engine(&host, 1, Extent::Gate)))));
-    };
+    let mut planted = Vec::new();
     for (name, fault) in FAULTS {
-        plant(name.to_string(), Faulty::new(*fault));
+        planted.push(of_the_engine(*name, Faulty::new(*fault)));
     }
     for (name, misread) in faults::records::FAULTS {
-        let host = Faulty { misread: *misread, ..Faulty::new(|_| ()) };
-        plant(format!("a reset with {name}"), host);
+        let calls = Faulty { misread: *misread, ..Faulty::new(|_| ()) };
+        planted.push(of_the_engine(format!("a reset with {name}"), calls));
     }
     for (name, fault) in JUDGED {
         for calls in JUDGES.chunks(1) {
-            let host = Faulty { calls, ..Faulty::new(*fault) };
-            plant(format!("{} with {name}", calls[0]), host);
+            let name = format!("{} with {name}", calls[0]);
+            planted.push(of_the_engine(name, Faulty { calls, ..Faulty::new(*fault) }));
         }
     }
     planted
 }
 
 fn in_recent_flights() -> Vec<Planted<'static>> {
-    let planted = |(name, fault): &(&str, faults::recent::Fault)| -> Planted<'static> {
-        let host = faults::recent::Faulty(*fault);
-        (name.to_string(), Box::new(move || drop(parts::engine(&host, 1, Extent::Gate))))
-    };
-    faults::recent::FAULTS.iter().map(planted).collect()
+    use faults::recent::{FAULTS, Faulty};
+    FAULTS.iter().map(|(name, fault)| of_the_engine(*name, Faulty(*fault))).collect()
 }
 
 fn in_sets() -> Vec<Planted<'static>> {
-    let planted = |(name, fault): &(&str, faults::sets::Fault)| -> Planted<'static> {
-        let host = faults::sets::Faulty(*fault);
-        (name.to_string(), Box::new(move || drop(parts::engine(&host, 1, Extent::Gate))))
-    };
-    faults::sets::FAULTS.iter().map(planted).collect()
+    use faults::sets::{FAULTS, Faulty};
+    FAULTS.iter().map(|(name, fault)| of_the_engine(*name, Faulty(*fault))).collect()
 }
 
 fn in_the_bounds() -> Vec<Planted<'static>> {

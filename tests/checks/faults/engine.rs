@@ -1,21 +1,11 @@
 //! Faults of reset, offer, step and write, and of every call that judges the words of a state.
 
 use super::records::Misread;
+use super::simulator::{Calls, Given};
 use second::calls;
-use second::host::{Engine, returned};
+use second::host::returned;
 use second::plan::change_records;
-use second::recent::Record;
 use second::state::{HEADER, PER_FLOW, judge};
-
-/// What a call gave, for a fault to change: its answer, the state, the deliveries of a step and
-/// the target of writing.
-pub struct Given<'a> {
-    call: &'static str,
-    answer: u64,
-    state: &'a mut [u32],
-    delivery: &'a mut [u32],
-    target: &'a mut [u8],
-}
 
 impl Given<'_> {
     fn accepted(&self) -> bool {
@@ -92,46 +82,18 @@ impl Faulty {
     pub fn new(fault: Fault) -> Faulty {
         Faulty { misread: |_| (), fault, calls: &["reset", "offer", "step", "write"] }
     }
+}
+
+impl Calls for Faulty {
+    fn reset(&self, file: &[u8], state: &mut [u32]) -> u64 {
+        returned(calls::reset(&change_records(file, self.misread), state))
+    }
 
     fn give(&self, mut given: Given) -> u64 {
         if self.calls.contains(&given.call) {
             (self.fault)(&mut given);
         }
         given.answer
-    }
-}
-
-impl Engine for Faulty {
-    fn reset(&self, file: &[u8], state: &mut [u32]) -> u64 {
-        let answer = returned(calls::reset(&change_records(file, self.misread), state));
-        self.give(Given { call: "reset", answer, state, delivery: &mut [], target: &mut [] })
-    }
-
-    fn offer(&self, state: &mut [u32], flow: u32) -> u64 {
-        let answer = returned(calls::offer(state, flow));
-        self.give(Given { call: "offer", answer, state, delivery: &mut [], target: &mut [] })
-    }
-
-    fn offer_set(&self, state: &mut [u32], flows: &[u32]) -> u64 {
-        let answer = returned(calls::offer_set(state, flows));
-        self.give(Given { call: "offer_set", answer, state, delivery: &mut [], target: &mut [] })
-    }
-
-    fn step(&self, state: &mut [u32], delivery: &mut [u32]) -> u64 {
-        let answer = returned(calls::step(state, delivery));
-        self.give(Given { call: "step", answer, state, delivery, target: &mut [] })
-    }
-
-    fn recent(&self, state: &[u32], deliveries: &[u32], records: &mut [Record], last: u32) -> u64 {
-        let answer = returned(calls::recent(state, deliveries, records, last));
-        let state = &mut state.to_vec();
-        self.give(Given { call: "recent", answer, state, delivery: &mut [], target: &mut [] })
-    }
-
-    fn write(&self, state: &[u32], notes: &[u8], target: &mut [u8]) -> u64 {
-        let answer = returned(calls::write(state, notes, target));
-        let state = &mut state.to_vec();
-        self.give(Given { call: "write", answer, state, delivery: &mut [], target })
     }
 }
 

@@ -1,7 +1,8 @@
 //! Faults of recent flights, each as a call with that fault in it.
 
+use super::simulator::Calls;
 use second::calls;
-use second::host::{Engine, returned};
+use second::host::returned;
 use second::plan::Plan;
 use second::recent::{Kept, Record, feed, flight, groups, held, holding, is_of_plan};
 use second::state::judge;
@@ -19,29 +20,9 @@ pub type Fault = fn(Lent) -> u64;
 /// The second simulator, but for this call.
 pub struct Faulty(pub Fault);
 
-impl Engine for Faulty {
-    fn reset(&self, file: &[u8], state: &mut [u32]) -> u64 {
-        returned(calls::reset(file, state))
-    }
-
-    fn offer(&self, state: &mut [u32], flow: u32) -> u64 {
-        returned(calls::offer(state, flow))
-    }
-
-    fn offer_set(&self, state: &mut [u32], flows: &[u32]) -> u64 {
-        returned(calls::offer_set(state, flows))
-    }
-
-    fn step(&self, state: &mut [u32], delivery: &mut [u32]) -> u64 {
-        returned(calls::step(state, delivery))
-    }
-
+impl Calls for Faulty {
     fn recent(&self, state: &[u32], deliveries: &[u32], records: &mut [Record], last: u32) -> u64 {
         self.0(Lent { state, deliveries, records, last })
-    }
-
-    fn write(&self, state: &[u32], notes: &[u8], target: &mut [u8]) -> u64 {
-        returned(calls::write(state, notes, target))
     }
 }
 
