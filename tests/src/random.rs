@@ -2,7 +2,7 @@
 
 use crate::book::{Book, Bucket, Place, Side};
 use crate::plan::{Flow, MOST_PERIOD, Plan};
-use crate::state::{HEADER, PER_FLOW, PER_REGISTER, places, register_at};
+use crate::state::{PER_REGISTER, places, register_at, waiting_at};
 
 pub struct Random(u64);
 
@@ -144,7 +144,7 @@ pub fn state(random: &mut Random, plan: &Plan) -> Vec<u32> {
             2..40 => 0,
             _ => random.from(0, 5),
         };
-        words[HEADER + PER_FLOW * f + 9] = waiting as u32;
+        words[waiting_at(f)] = waiting as u32;
     }
     let load = random.pick(&[0, 10, 50, 90, 100]);
     for place in places(plan) {

@@ -2,6 +2,7 @@
 //! judged.
 
 use crate::book::{Book, Bucket, Line, Place, Router, Side};
+use crate::offers::MOST_WAITING;
 use crate::plan::{Flow, MOST_PERIOD, Plan, Refusal, refuse};
 
 pub const HEADER: usize = 8;
@@ -26,6 +27,11 @@ pub fn words(book: &Book) -> Vec<u32> {
         words[at..at + PER_REGISTER].copy_from_slice(&packet);
     }
     words.into_iter().map(|word| word.try_into().unwrap()).collect()
+}
+
+/// Where a flow's waiting packets are counted.
+pub fn waiting_at(flow: usize) -> usize {
+    HEADER + PER_FLOW * flow + 9
 }
 
 /// Where the words of a register start: by row, then column, W before N.
@@ -79,7 +85,7 @@ pub fn judge(memory: &[u32]) -> Result<Book, Refusal> {
         let on_torus = flow.xs < sx && flow.xd < sx && flow.ys < sy && flow.yd < sy;
         let ranges = (1..=MOST_PERIOD).contains(&flow.period) && (1..=255).contains(&flow.burst);
         let bucket = tokens <= flow.burst && counter < flow.period;
-        if !(on_torus && ranges && bucket && waiting <= 65_535 && entered <= clock) {
+        if !(on_torus && ranges && bucket && waiting <= MOST_WAITING as i64 && entered <= clock) {
             return refuse(9, 0);
         }
         book.buckets[f] = Bucket { tokens, count: counter };

@@ -1,9 +1,9 @@
 //! Faults of sets of offers, each as a call with that fault in it.
 
-use super::simulator::Calls;
+use super::simulator::{Calls, refused};
 use second::calls;
 use second::host::returned;
-use second::state::{HEADER, PER_FLOW, judge};
+use second::state::{HEADER, judge, waiting_at};
 
 /// What is lent to a call.
 pub struct Lent<'a> {
@@ -20,10 +20,6 @@ impl Calls for Faulty {
     fn offer_set(&self, state: &mut [u32], flows: &[u32]) -> u64 {
         self.0(Lent { state, flows })
     }
-}
-
-fn refused(number: u64, place: usize) -> u64 {
-    (number << 32) + place as u64
 }
 
 impl Lent<'_> {
@@ -53,7 +49,7 @@ impl Lent<'_> {
 
     /// How many packets of a flow wait.
     fn waiting(&mut self, flow: u32) -> &mut u32 {
-        &mut self.state[HEADER + PER_FLOW * flow as usize + 9]
+        &mut self.state[waiting_at(flow as usize)]
     }
 
     fn add(&mut self, entries: &[u32]) {

@@ -2,6 +2,7 @@
 
 use second::calls;
 use second::host::{Engine, returned};
+use second::plan::refuse;
 use second::recent::Record;
 
 /// What a call gave, for a fault to change: its answer, the state, the deliveries of a step and
@@ -18,6 +19,11 @@ impl<'a> Given<'a> {
     fn new(call: &'static str, answer: u64, state: &'a mut [u32]) -> Given<'a> {
         Given { call, answer, state, delivery: &mut [], target: &mut [] }
     }
+}
+
+/// What a refused call answers.
+pub fn refused(number: u64, place: usize) -> u64 {
+    returned(refuse(number, place))
 }
 
 /// The calls, as the second simulator has them.

@@ -84,6 +84,12 @@ impl Tally {
     }
 }
 
+/// Numbers that aren't those of a flow: the first ones, the last, and those with a flow's low bits.
+fn no_flows(flow: usize, flows: usize) -> [u32; 7] {
+    let (flow, flows) = (flow as u32, flows as u32);
+    [flows, flows + 1, flow + 256, flow + (1 << 16), flow + (1 << 24), flow + (1 << 31), u32::MAX]
+}
+
 /// Memory to be lent twice, to the simulator and to the other engine, with noise around it.
 pub struct Twin<T> {
     pub expected: Vec<T>,

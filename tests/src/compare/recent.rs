@@ -1,6 +1,7 @@
 //! Recent flights, one call at a time, on any memory: answer and records as U1 states them.
 
 use super::deliveries::{any_good, good, good_of, list, nearly, of_no_flow};
+use super::states::whole_and_broken;
 use super::{Call, GUARD, Tally, Twin};
 use crate::book::Book;
 use crate::calls;
@@ -114,14 +115,6 @@ pub fn boundaries(host: &impl Engine, tally: &mut Tally, random: &mut Random) {
 /// Each refusal alone, and in front of and behind each other one.
 fn orders(host: &impl Engine, tally: &mut Tally, random: &mut Random, plan: &Plan) {
     let state = words(&Book::new(plan.clone()));
-    let changed = |at: usize| {
-        let mut state = state.clone();
-        state[at] = u32::MAX;
-        state
-    };
-    let short = |length: usize| state[..length].to_vec();
-    let states =
-        [state.clone(), short(7), changed(0), short(state.len() - 1), changed(14), changed(8)];
     let (right, wrong) = (good(plan, 1)[1], of_no_flow(plan, 4));
     let lists = [
         vec![],
@@ -132,7 +125,7 @@ fn orders(host: &impl Engine, tally: &mut Tally, random: &mut Random, plan: &Pla
         wrong[..4].to_vec(),
     ];
     let flows = plan.flows.len();
-    for state in &states {
+    for state in &whole_and_broken(&state) {
         for count in [0, flows - 1, flows, flows + 2] {
             for last in [0, 1, 16, 17, u32::MAX] {
                 for list in &lists {

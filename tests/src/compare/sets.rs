@@ -1,13 +1,13 @@
 //! Sets of offers, one call at a time, on any memory: answer and state as U4 states them.
 
 use super::engine::{offer, offer_set};
-use super::{GUARD, Tally, Twin};
+use super::states::{three_queues, whole_and_broken};
+use super::{GUARD, Tally, Twin, no_flows};
 use crate::book::Book;
 use crate::host::Engine;
 use crate::offers::MOST_WAITING;
-use crate::plan::{Flow, Plan};
 use crate::random::{self, Random};
-use crate::state::{HEADER, PER_FLOW, words};
+use crate::state::{waiting_at, words};
 
 /// The list, to be lent with more entries around it. Most of these are flows too, so that a packet
 /// more is added if one of them is read.
@@ -35,27 +35,10 @@ pub fn list(random: &mut Random, flows: usize) -> Vec<u32> {
     list
 }
 
-/// Numbers that aren't those of a flow: the first ones, the last, and those with a flow's low bits.
-fn no_flows(flow: usize, flows: usize) -> [u32; 7] {
-    let (flow, flows) = (flow as u32, flows as u32);
-    [flows, flows + 1, flow + 256, flow + (1 << 16), flow + (1 << 24), flow + (1 << 31), u32::MAX]
-}
-
-/// Where the waiting packets of a flow stand among the words.
-fn waiting_at(flow: usize) -> usize {
-    HEADER + PER_FLOW * flow + 9
-}
-
 /// Refusals in every order, each at every position, full queues, and lists that are really long.
 pub fn boundaries(host: &impl Engine, tally: &mut Tally, random: &mut Random) {
-    let flows = [[0, 0, 2, 1, 9, 1], [1, 1, 1, 1, 9, 1], [2, 0, 2, 1, 9, 1]];
-    let plan = Plan { sx: 3, sy: 2, flows: flows.map(Flow::from_numbers).to_vec() };
-    let state = words(&Book::new(plan));
-    let nearly_full = |room: usize| {
-        let mut state = state.clone();
-        state[waiting_at(1)] = (MOST_WAITING - room) as u32;
-        state
-    };
+    let state = three_queues([0; 3]);
+    let nearly_full = |room: usize| three_queues([0, (MOST_WAITING - room) as u32, 0]);
     orders(host, tally, random, &nearly_full(1));
     for number in no_flows(2, 3) {
         in_every_place(host, tally, random, &state, number);
@@ -67,7 +50,7 @@ pub fn boundaries(host: &impl Engine, tally: &mut Tally, random: &mut Random) {
 }
 
 /// One call on such words and such a list for three flows, with noise around each.
-fn call(
+pub fn call(
     host: &impl Engine,
     tally: &mut Tally,
     random: &mut Random,
@@ -80,26 +63,6 @@ fn call(
 
 /// Each refusal alone, and in front of and behind each other one. Flow 1 has room for one packet.
 fn orders(host: &impl Engine, tally: &mut Tally, random: &mut Random, state: &[u32]) {
-    let changed = |at: usize| {
-        let mut state = state.to_vec();
-        state[at] = u32::MAX;
-        state
-    };
-    let short = |length: usize| state[..length].to_vec();
-    let (size, tokens) = (state.len(), HEADER + 6);
-    let states = [
-        state.to_vec(),
-        short(0),
-        short(7),
-        changed(0),
-        changed(7),
-        short(8),
-        short(size - 1),
-        changed(tokens),
-        changed(waiting_at(1)),
-        changed(waiting_at(2)),
-        changed(size - 1),
-    ];
     let lists: [&[u32]; 10] = [
         &[],
         &[0],
@@ -112,9 +75,9 @@ fn orders(host: &impl Engine, tally: &mut Tally, random: &mut Random, state: &[u
         &[3, 1, 1],
         &[0, 1, 2, 1, 3, 1],
     ];
-    for state in &states {
+    for state in whole_and_broken(state) {
         for list in lists {
-            call(host, tally, random, state, list);
+            call(host, tally, random, &state, list);
         }
     }
 }

@@ -7,7 +7,7 @@ use crate::host::Engine;
 use crate::offers::MOST_WAITING;
 use crate::plan::{Flow, MOST_BYTES, MOST_PERIOD, Plan};
 use crate::random::{self, Random};
-use crate::state::{HEADER, PER_FLOW, PER_REGISTER, places, register_at, words};
+use crate::state::{HEADER, PER_FLOW, PER_REGISTER, places, register_at, waiting_at, words};
 
 /// Every boundary of reset, every word of a small state set to each telling value, and a full queue.
 pub fn boundaries(host: &impl Engine, tally: &mut Tally, random: &mut Random) {
@@ -34,7 +34,7 @@ pub fn boundaries(host: &impl Engine, tally: &mut Tally, random: &mut Random) {
 /// An offer where one packet more may wait, and one where none may.
 fn full_queue(host: &impl Engine, tally: &mut Tally, random: &mut Random, mut state: Vec<u32>) {
     for waiting in [MOST_WAITING - 1, MOST_WAITING] {
-        state[HEADER + 9] = waiting as u32;
+        state[waiting_at(0)] = waiting as u32;
         engine::offer(host, tally, &mut Twin::words(random, &state, 0), 0);
     }
 }
@@ -60,6 +60,30 @@ fn small_state() -> Vec<u32> {
         book.step(45).unwrap();
     }
     words(&book)
+}
+
+/// Three flows on 3 by 2 after reset, with so many packets of each waiting.
+pub fn three_queues(waiting: [u32; 3]) -> Vec<u32> {
+    let flows = [[0, 0, 2, 1, 9, 1], [1, 1, 1, 1, 9, 1], [2, 0, 2, 1, 9, 1]];
+    let plan = Plan { sx: 3, sy: 2, flows: flows.map(Flow::from_numbers).to_vec() };
+    let mut state = words(&Book::new(plan));
+    for (flow, waiting) in waiting.into_iter().enumerate() {
+        state[waiting_at(flow)] = waiting;
+    }
+    state
+}
+
+/// A state of three flows or more, and what isn't one: cut short, or with a word past its range.
+pub fn whole_and_broken(state: &[u32]) -> Vec<Vec<u32>> {
+    let (size, tokens) = (state.len(), HEADER + 6);
+    let cut = [0, 7, HEADER, size - 1].map(|length| state[..length].to_vec());
+    let words = [0, 7, HEADER, tokens, waiting_at(1), waiting_at(2), size - 1];
+    let changed = words.map(|at| {
+        let mut state = state.to_vec();
+        state[at] = u32::MAX;
+        state
+    });
+    [&[state.to_vec()][..], &cut, &changed].concat()
 }
 
 fn telling_values(word: u32) -> Vec<u32> {
