@@ -30,6 +30,10 @@ impl Engine for Archive {
         calls::offer(state, flow)
     }
 
+    fn offer_trial(&self, state: &mut [u32], flow: u32) -> u64 {
+        calls::offer_trial(state, flow)
+    }
+
     fn offer_set(&self, state: &mut [u32], flows: &[u32]) -> u64 {
         calls::offer_set(state, flows)
     }

@@ -28,28 +28,36 @@ fn lay_down(book: &Book, memory: &mut [u32]) {
     memory[..words.len()].copy_from_slice(&words);
 }
 
+/// A call on the book that the memory holds: 8 and 9, then its own refusals. What it leaves of the book
+/// is laid down, if it isn't refused.
+fn change<T>(
+    memory: &mut [u32],
+    call: impl FnOnce(&mut Book) -> Result<T, Refusal>,
+) -> Result<T, Refusal> {
+    let mut book = judge(memory)?;
+    let given = call(&mut book)?;
+    lay_down(&book, memory);
+    Ok(given)
+}
+
 /// Offer: 8 and 9, then 12, 13.
 pub fn offer(memory: &mut [u32], flow: u32) -> Answer {
-    let mut book = judge(memory)?;
-    book.offer(flow)?;
-    lay_down(&book, memory);
-    Ok(0)
+    change(memory, |book| book.offer(flow))
+}
+
+/// The trial generator's offer: 8 and 9, then 12, 18.
+pub fn offer_trial(memory: &mut [u32], flow: u32) -> Answer {
+    change(memory, |book| book.offer_trial(flow))
 }
 
 /// A set of offers: 8 and 9, then 12 or 13 of the first entry that would be refused.
 pub fn offer_set(memory: &mut [u32], flows: &[u32]) -> Answer {
-    let mut book = judge(memory)?;
-    book.offer_set(flows)?;
-    lay_down(&book, memory);
-    Ok(0)
+    change(memory, |book| book.offer_set(flows))
 }
 
 /// Step: 8 and 9, then 10, 11.
 pub fn step(memory: &mut [u32], delivery: &mut [u32]) -> Answer {
-    let mut book = judge(memory)?;
-    let exits = book.step(delivery.len())?;
-    lay_down(&book, memory);
-    let exits = exits.concat();
+    let exits = change(memory, |book| book.step(delivery.len()))?.concat();
     delivery[..exits.len()].copy_from_slice(&exits);
     Ok(exits.len() as u64 / 5)
 }

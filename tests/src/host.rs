@@ -13,6 +13,7 @@ pub trait Bounds {
 pub trait Engine {
     fn reset(&self, file: &[u8], state: &mut [u32]) -> u64;
     fn offer(&self, state: &mut [u32], flow: u32) -> u64;
+    fn offer_trial(&self, state: &mut [u32], flow: u32) -> u64;
     fn offer_set(&self, state: &mut [u32], flows: &[u32]) -> u64;
     fn step(&self, state: &mut [u32], delivery: &mut [u32]) -> u64;
     fn recent(&self, state: &[u32], deliveries: &[u32], records: &mut [Record], last: u32) -> u64;

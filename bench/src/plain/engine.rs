@@ -1,11 +1,12 @@
-//! Reset, offer, step and write; sets of offers and recent flights are called from here.
+//! Reset, step and write; offers and recent flights are called from here.
 
+use super::offers::{offer, offer_set};
 use super::plan::{numbers, read};
 use super::recent::recent;
-use super::sets::offer_set;
 use super::state::{EMPTY, FlowWords, Register, State, state};
 use super::{Plain, next, refused};
 use second::host::Engine;
+use second::offers::{MOST_TRIAL, MOST_WAITING};
 use second::recent::Record;
 use std::mem::replace;
 
@@ -107,18 +108,11 @@ impl Engine for Plain {
     }
 
     fn offer(&self, words: &mut [u32], flow: u32) -> u64 {
-        let flows = match state(words) {
-            Ok(state) => state.flows,
-            Err(no) => return no,
-        };
-        match flows.get(flow as usize) {
-            None => refused(12, 0),
-            Some(words) if words[9] == 65_535 => refused(13, 0),
-            Some(_) => {
-                words[8 + 10 * flow as usize + 9] += 1;
-                0
-            }
-        }
+        offer(words, flow, MOST_WAITING as u32, 13)
+    }
+
+    fn offer_trial(&self, words: &mut [u32], flow: u32) -> u64 {
+        offer(words, flow, MOST_TRIAL as u32, 18)
     }
 
     fn offer_set(&self, words: &mut [u32], flows: &[u32]) -> u64 {

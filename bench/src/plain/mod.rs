@@ -1,11 +1,11 @@
 //! The calls in plain Rust: the honest baseline. Written for speed, with every check of 01's
-//! table, of U1 and of U4, and with U5's periods, on the same memory; safe Rust with no heap.
+//! table, of U1, U4 and U6, and with U5's periods, on the same memory; safe Rust with no heap.
 
 mod bounds;
 mod engine;
+mod offers;
 mod plan;
 mod recent;
-mod sets;
 mod state;
 
 pub use plan::numbers;

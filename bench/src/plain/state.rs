@@ -1,6 +1,7 @@
 //! The words of a state: the refusals 8 and 9.
 
 use super::{offset, refused};
+use second::offers::MOST_WAITING;
 use second::plan::MOST_PERIOD;
 
 pub type FlowWords = [u32; 10];
@@ -53,7 +54,7 @@ fn flow_holds(state: &State, flow: &FlowWords) -> bool {
         && (1..=255).contains(&burst)
         && tokens <= burst
         && count < period
-        && waiting <= 65_535
+        && waiting <= MOST_WAITING as u32
         && entered <= state.clock
 }
 

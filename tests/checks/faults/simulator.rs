@@ -36,6 +36,10 @@ pub trait Calls {
         returned(calls::offer(state, flow))
     }
 
+    fn offer_trial(&self, state: &mut [u32], flow: u32) -> u64 {
+        returned(calls::offer_trial(state, flow))
+    }
+
     fn offer_set(&self, state: &mut [u32], flows: &[u32]) -> u64 {
         returned(calls::offer_set(state, flows))
     }
@@ -70,6 +74,11 @@ impl<C: Calls> Engine for Host<C> {
     fn offer(&self, state: &mut [u32], flow: u32) -> u64 {
         let answer = self.0.offer(state, flow);
         self.0.give(Given::new("offer", answer, state))
+    }
+
+    fn offer_trial(&self, state: &mut [u32], flow: u32) -> u64 {
+        let answer = self.0.offer_trial(state, flow);
+        self.0.give(Given::new("offer_trial", answer, state))
     }
 
     fn offer_set(&self, state: &mut [u32], flows: &[u32]) -> u64 {
