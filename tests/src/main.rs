@@ -40,7 +40,7 @@ fn main() {
             0 => "accepted".to_string(),
             _ => format!("refused {number}"),
         };
-        println!("{call:9} {answer:10} {count:9}");
+        println!("{call:11} {answer:10} {count:9}");
     }
     let (calls, memory) = (tally.calls(), tally.words);
     println!("{part}: {calls} answers and {memory} words or bytes compared, no difference");

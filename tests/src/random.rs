@@ -1,6 +1,7 @@
 //! Random numbers with a seed (splitmix64), and random plans, notes and states made with them.
 
 use crate::book::{Book, Bucket, Place, Side};
+use crate::offers::MOST_TRIAL;
 use crate::plan::{Flow, MOST_PERIOD, Plan};
 use crate::state::{PER_REGISTER, places, register_at, waiting_at};
 
@@ -141,6 +142,7 @@ pub fn state(random: &mut Random, plan: &Plan) -> Vec<u32> {
         let waiting = match random.from(0, 99) {
             0 if f < 4 => random.from(65_534, 65_535),
             1 if f < 4 => random.from(0, 65_535),
+            2 | 3 if f < 16 => MOST_TRIAL as i64 + random.from(-2, 2),
             2..40 => 0,
             _ => random.from(0, 5),
         };

@@ -1,7 +1,7 @@
 //! The engine's calls one at a time, on any memory: answer and memory as 01 and 02 state them.
 
 use super::{Call, Tally, Twin};
-use crate::calls;
+use crate::calls::{self, Answer};
 use crate::host::Engine;
 use crate::random::Random;
 
@@ -9,6 +9,7 @@ use crate::random::Random;
 pub fn all_came_up(tally: &Tally) {
     tally.must_have_come_up("reset", &[1, 2, 3, 4, 5, 6, 7, 8]);
     tally.must_have_come_up("offer", &[8, 9, 12, 13]);
+    tally.must_have_come_up("offer_trial", &[8, 9, 12, 18]);
     tally.must_have_come_up("offer_set", &[8, 9, 12, 13]);
     tally.must_have_come_up("step", &[8, 9, 10, 11]);
     tally.must_have_come_up("recent", &[8, 9, 16, 17, 12]);
@@ -25,13 +26,39 @@ pub fn reset(host: &impl Engine, tally: &mut Tally, file: &[u8], state: &mut Twi
     expected.is_ok()
 }
 
-pub fn offer(host: &impl Engine, tally: &mut Tally, state: &mut Twin<u32>, flow: u32) {
+/// The sonar's offer: is it to be accepted?
+pub fn offer(host: &impl Engine, tally: &mut Tally, state: &mut Twin<u32>, flow: u32) -> bool {
+    let other = |words: &mut [u32]| host.offer(words, flow);
+    single_offer(tally, state, flow, "offer", calls::offer, other)
+}
+
+/// The trial generator's offer: is it to be accepted?
+pub fn offer_trial(
+    host: &impl Engine,
+    tally: &mut Tally,
+    state: &mut Twin<u32>,
+    flow: u32,
+) -> bool {
+    let other = |words: &mut [u32]| host.offer_trial(words, flow);
+    single_offer(tally, state, flow, "offer_trial", calls::offer_trial, other)
+}
+
+/// A single offer by the call of this name, of the second simulator and of the other engine.
+fn single_offer(
+    tally: &mut Tally,
+    state: &mut Twin<u32>,
+    flow: u32,
+    name: &'static str,
+    second: impl Fn(&mut [u32], u32) -> Answer,
+    other: impl Fn(&mut [u32]) -> u64,
+) -> bool {
     let before = state.expected().to_vec();
-    let expected = calls::offer(state.expected(), flow);
-    let got = host.offer(state.got(), flow);
-    let call = Call { name: "offer", with: &(flow, before) };
+    let expected = second(state.expected(), flow);
+    let got = other(state.got());
+    let call = Call { name, with: &(flow, before) };
     tally.answer(call, expected, got);
     tally.memory(call, state);
+    expected.is_ok()
 }
 
 /// A set: is it to be accepted? The list is compared too: it stays.

@@ -6,6 +6,7 @@ use super::{Call, Tally, Twin, engine, sets};
 use crate::book::{Book, Delivery};
 use crate::calls::Answer;
 use crate::host::Engine;
+use crate::offers::MOST_TRIAL;
 use crate::plan::Plan;
 use crate::promises::{Windows, check, check_live, check_set, windows};
 use crate::random::{self, Random};
@@ -13,6 +14,18 @@ use crate::slips::{met_exactly, met_late, refuted};
 use crate::state::words;
 use crate::worst::{Worst, worst_wait};
 use std::fmt::Debug;
+
+/// The call by which packets are offered.
+#[derive(Clone, Copy)]
+pub enum By {
+    Offer,
+    Trial,
+    Set,
+}
+
+impl By {
+    pub const ALL: [By; 3] = [By::Offer, By::Trial, By::Set];
+}
 
 /// A list under way.
 pub struct List<'a, E> {
@@ -40,21 +53,52 @@ impl<'a, E: Engine> List<'a, E> {
         List { host, book, state, windows, delivered: Vec::new(), kept, file }
     }
 
-    pub fn offer(&mut self, tally: &mut Tally, flow: u32) {
-        let expected = self.book.offer(flow);
-        let got = self.host.offer(self.state.got(), flow);
-        self.compare(tally, "offer", &flow, expected, got);
+    /// How many packets of a flow wait.
+    pub fn waiting(&self, flow: u32) -> usize {
+        self.book.waiting[flow as usize].len()
     }
 
-    /// A set, lent with other entries around it.
-    pub fn offer_set(&mut self, tally: &mut Tally, random: &mut Random, flows: &[u32]) {
+    /// The sonar's offer: is it to be accepted?
+    pub fn offer(&mut self, tally: &mut Tally, flow: u32) -> bool {
+        let expected = self.book.offer(flow);
+        let got = self.host.offer(self.state.got(), flow);
+        self.compare(tally, "offer", &flow, expected, got)
+    }
+
+    /// The trial generator's offer: is it to be accepted?
+    pub fn offer_trial(&mut self, tally: &mut Tally, flow: u32) -> bool {
+        let expected = self.book.offer_trial(flow);
+        let got = self.host.offer_trial(self.state.got(), flow);
+        self.compare(tally, "offer_trial", &flow, expected, got)
+    }
+
+    /// A set, lent with other entries around it: is it to be accepted?
+    pub fn offer_set(&mut self, tally: &mut Tally, random: &mut Random, flows: &[u32]) -> bool {
         let mut lent = sets::lent(random, flows, self.book.plan.flows.len());
         let before = self.book.clone();
         let expected = self.book.offer_set(flows);
         check_set(&before, flows, expected, &self.book);
         let got = self.host.offer_set(self.state.got(), lent.got());
-        self.compare(tally, "offer_set", &flows, expected, got);
         tally.memory(Call { name: "offer_set", with: &(flows, &self.file) }, &lent);
+        self.compare(tally, "offer_set", &flows, expected, got)
+    }
+
+    /// A packet of each of these flows, by this call: are all to be accepted?
+    pub fn offer_by(
+        &mut self,
+        tally: &mut Tally,
+        random: &mut Random,
+        by: By,
+        flows: &[u32],
+    ) -> bool {
+        let mut single = |offer: fn(&mut Self, &mut Tally, u32) -> bool| {
+            flows.iter().filter(|&&flow| !offer(self, tally, flow)).count() == 0
+        };
+        match by {
+            By::Offer => single(Self::offer),
+            By::Trial => single(Self::offer_trial),
+            By::Set => self.offer_set(tally, random, flows),
+        }
     }
 
     /// A step that is lent so many words for its deliveries, which are then fed to the flows' records.
@@ -93,13 +137,14 @@ impl<'a, E: Engine> List<'a, E> {
         with: &dyn Debug,
         expected: Answer,
         got: u64,
-    ) {
+    ) -> bool {
         let words = words(&self.book);
         self.state.expected()[..words.len()].copy_from_slice(&words);
         let call = Call { name, with: &(with, "clock", self.book.clock, "plan", &self.file) };
         tally.answer(call, expected, got);
         tally.memory(call, &self.state);
         check_live(&self.book, &self.windows);
+        expected.is_ok()
     }
 
     /// A call that isn't fed to the book: writing, a refused reset, or too little of the state lent.
@@ -110,19 +155,20 @@ impl<'a, E: Engine> List<'a, E> {
             self.state.lent.end = whole.start + random.index(size);
         }
         let short = self.state.lent != whole;
-        match random.from(0, 5) {
-            0 if short => engine::offer(self.host, tally, &mut self.state, 0),
-            1 if short => drop(engine::step(self.host, tally, random, &mut self.state, 1280)),
-            2 if short => drop(engine::reset(self.host, tally, &self.file, &mut self.state)),
-            2 => {
+        match random.from(0, 6) {
+            0 if short => drop(engine::offer(self.host, tally, &mut self.state, 0)),
+            1 if short => drop(engine::offer_trial(self.host, tally, &mut self.state, 0)),
+            2 if short => drop(engine::step(self.host, tally, random, &mut self.state, 1280)),
+            3 if short => drop(engine::reset(self.host, tally, &self.file, &mut self.state)),
+            3 => {
                 let cut = &self.file[..random.index(self.file.len())];
                 engine::reset(self.host, tally, cut, &mut self.state);
             }
-            3 if short => {
+            4 if short => {
                 let flows = self.book.plan.flows.len();
                 sets::on_words(self.host, tally, random, &mut self.state, flows)
             }
-            4 => {
+            5 => {
                 let flows = self.book.plan.flows.len();
                 recent::on_words(self.host, tally, random, &mut self.state, flows)
             }
@@ -142,15 +188,25 @@ impl<'a, E: Engine> List<'a, E> {
     }
 }
 
-/// A list of so many calls, with refused and unfed ones between them.
+/// A list of so many calls, with refused and unfed ones between them. A flow is offered more often than
+/// others, and now and then has about as many packets waiting from the start as the generator may leave.
 fn run(host: &impl Engine, tally: &mut Tally, random: &mut Random, plan: Plan, calls: usize) {
     let flows = plan.flows.len();
     let room = 5 * plan.routers();
     let mut list = List::new(host, tally, random, plan);
     let steps = random.pick(&[10, 50, 90]);
+    let often = random.index(flows) as u32;
+    if random.percent(20) {
+        let waiting = MOST_TRIAL + 1 - random.index(8);
+        list.offer_set(tally, random, &vec![often; waiting]);
+    }
     for _ in 0..calls {
+        let single = random.pick(&[By::Offer, By::Trial]);
         match random.from(1, 100) {
-            1 => list.offer(tally, flows as u32 + random.pick(&[0, 1, 1 << 20])),
+            1 => {
+                let unknown = flows as u32 + random.pick(&[0, 1, 1 << 20]);
+                list.offer_by(tally, random, single, &[unknown]);
+            }
             2 => {
                 let short = random.index(room);
                 list.step(tally, random, short)
@@ -158,13 +214,17 @@ fn run(host: &impl Engine, tally: &mut Tally, random: &mut Random, plan: Plan, c
             3..7 => list.unfed(tally, random),
             7..10 => {
                 let flows = sets::list(random, flows);
-                list.offer_set(tally, random, &flows)
+                list.offer_set(tally, random, &flows);
             }
             _ if random.percent(steps) => {
                 let past = random.index(7);
                 list.step(tally, random, room + past)
             }
-            _ => list.offer(tally, random.index(flows) as u32),
+            _ => {
+                let any = random.index(flows) as u32;
+                let flow = if random.percent(20) { often } else { any };
+                list.offer_by(tally, random, single, &[flow]);
+            }
         }
     }
     list.end();
@@ -178,8 +238,7 @@ pub fn round(host: &impl Engine, tally: &mut Tally, random: &mut Random, sx: i64
     run(host, tally, random, plan, calls);
 }
 
-/// A saturated run: before each step an offer of every flow that has few packets waiting, one by one
-/// or as a set.
+/// A saturated run: before each step an offer of every flow that has few packets waiting, by any call.
 pub fn saturated(
     host: &impl Engine,
     tally: &mut Tally,
@@ -191,25 +250,23 @@ pub fn saturated(
     let flows = plan.flows.len() as u32;
     let mut list = List::new(host, tally, random, plan);
     for _ in 0..steps {
-        let few = |flow: &u32| list.book.waiting[*flow as usize].len() < 2;
-        let flows: Vec<u32> = (0..flows).filter(few).collect();
-        if random.percent(50) {
-            list.offer_set(tally, random, &flows);
-        } else {
-            flows.into_iter().for_each(|flow| list.offer(tally, flow));
-        }
+        let flows: Vec<u32> = (0..flows).filter(|&flow| list.waiting(flow) < 2).collect();
+        let by = random.pick(&By::ALL);
+        list.offer_by(tally, random, by, &flows);
         list.step(tally, random, room);
     }
     list.end();
 }
 
-/// As many offers as are taken, and two more; then a few steps.
+/// As many offers as are taken, and two more; then a few steps, with an offer of the generator before
+/// each.
 pub fn full_queue(host: &impl Engine, tally: &mut Tally, random: &mut Random) {
     let mut list = List::new(host, tally, random, met_exactly().0);
     for _ in 0..65_537 {
         list.offer(tally, 1);
     }
     for _ in 0..9 {
+        list.offer_trial(tally, 1);
         list.step(tally, random, 80);
         list.offer(tally, 1);
     }
@@ -235,8 +292,8 @@ pub fn full_queues_by_sets(host: &impl Engine, tally: &mut Tally, random: &mut R
     list.end();
 }
 
-/// The lists that refute each slipped window, and the one that meets the bound, with single offers and
-/// with a set before each step.
+/// The lists that refute each slipped window, and the one that meets the bound, with the offers before
+/// each step by each call.
 pub fn worst_lists(host: &impl Engine, tally: &mut Tally, random: &mut Random) {
     let lists = refuted().into_iter().map(|row| {
         let worst = worst_wait(&row.plan, row.f);
@@ -244,14 +301,10 @@ pub fn worst_lists(host: &impl Engine, tally: &mut Tally, random: &mut Random) {
     });
     for (plan, Worst { offers, .. }) in lists.chain([met_exactly()]) {
         let room = 5 * plan.routers();
-        for by_sets in [false, true] {
+        for by in By::ALL {
             let mut list = List::new(host, tally, random, plan.clone());
             for flows in &offers {
-                if by_sets {
-                    list.offer_set(tally, random, flows);
-                } else {
-                    flows.iter().for_each(|&flow| list.offer(tally, flow));
-                }
+                list.offer_by(tally, random, by, flows);
                 list.step(tally, random, room);
             }
             list.end();
@@ -265,7 +318,7 @@ pub fn slow_list(host: &impl Engine, tally: &mut Tally, random: &mut Random) {
     let (plan, Worst { offers, .. }) = met_late();
     let mut list = List::new(host, tally, random, plan);
     for flows in offers {
-        flows.into_iter().for_each(|flow| list.offer(tally, flow));
+        list.offer_by(tally, random, By::Offer, &flows);
         list.unkept_step(tally, random, 10);
     }
     list.end();

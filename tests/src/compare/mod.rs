@@ -12,6 +12,7 @@ pub mod plans;
 pub mod recent;
 pub mod sets;
 pub mod states;
+pub mod trial;
 
 use crate::calls::Answer;
 use crate::host::returned;

@@ -1,7 +1,7 @@
 //! The parts of the comparison: fixed boundaries first, then rounds. Each round has a seed of its
 //! own, the last one's + 1, which gives the torus too, so that 256 rounds go through all sizes.
 
-use super::{Tally, bounds, engine, lists, periods, recent, sets, states};
+use super::{Tally, bounds, engine, lists, periods, recent, sets, states, trial};
 use crate::host::{Bounds, Engine};
 use crate::random::{Random, plan};
 use std::time::{Duration, Instant};
@@ -26,12 +26,13 @@ pub fn bounds(host: &impl Bounds, seed: u64, extent: Extent) -> Tally {
     tally
 }
 
-/// Reset, offer, sets of offers, step, recent flights and write.
+/// Reset, offer, the trial generator's offer, sets of offers, step, recent flights and write.
 pub fn engine(host: &impl Engine, seed: u64, extent: Extent) -> Tally {
     let mut tally = Tally::new(seed);
     let mut random = Random::new(seed);
     periods::slow_states(host, &mut tally, &mut random);
     recent::boundaries(host, &mut tally, &mut random);
+    trial::boundaries(host, &mut tally, &mut random);
     states::boundaries(host, &mut tally, &mut random);
     sets::boundaries(host, &mut tally, &mut random);
     periods::round_trips(host, &mut tally, &mut random);
@@ -40,11 +41,13 @@ pub fn engine(host: &impl Engine, seed: u64, extent: Extent) -> Tally {
         states::round(host, tally, random, sx, sy);
         recent::round(host, tally, random, sx, sy);
         sets::round(host, tally, random, sx, sy);
+        trial::round(host, tally, random, sx, sy);
     });
     lists::worst_lists(host, &mut tally, &mut random);
     lists::slow_list(host, &mut tally, &mut random);
     lists::full_queue(host, &mut tally, &mut random);
     lists::full_queues_by_sets(host, &mut tally, &mut random);
+    trial::queues(host, &mut tally, &mut random);
     for (size, flows) in [(4, 16), (8, 64), (16, 256)] {
         let plan = plan(&mut random, size, size, flows);
         lists::saturated(host, &mut tally, &mut random, plan, 60);

@@ -90,7 +90,7 @@ pub fn slow_states(host: &impl Engine, tally: &mut Tally, random: &mut Random) {
         for turn in [256, 65_536, period - 65_536, period] {
             let count = (turn - 3).clamp(0, period - 1);
             let state = waiting_state(period as u32, count as u32);
-            states::five_calls(host, tally, random, &state);
+            states::every_call(host, tally, random, &state);
             let run = &mut Twin::words(random, &state, 1);
             for _ in 0..6 {
                 engine::step(host, tally, random, run, 10);
@@ -99,7 +99,7 @@ pub fn slow_states(host: &impl Engine, tally: &mut Tally, random: &mut Random) {
     }
     let past = MOST_PERIOD as u32 + 1;
     for period in [past, past + 1, past + 65_536, 1 << 31, u32::MAX] {
-        states::five_calls(host, tally, random, &waiting_state(period, 0));
+        states::every_call(host, tally, random, &waiting_state(period, 0));
     }
 }
 

@@ -20,7 +20,7 @@ pub fn boundaries(host: &impl Engine, tally: &mut Tally, random: &mut Random) {
         for value in telling_values(small[at]) {
             let mut state = small.clone();
             state[at] = value;
-            five_calls(host, tally, random, &state);
+            every_call(host, tally, random, &state);
             if at < HEADER {
                 // What the first eight words say comes before the length of the rest.
                 calls_with_past(host, tally, random, &state[..HEADER], 0);
@@ -95,9 +95,9 @@ fn telling_values(word: u32) -> Vec<u32> {
     [&near[..], &small, &large].concat()
 }
 
-/// Offer, a set of offers, step, recent flights and write, each on its own copy of the words, with
-/// some noise past them.
-pub fn five_calls(host: &impl Engine, tally: &mut Tally, random: &mut Random, state: &[u32]) {
+/// The offers, step, recent flights and write, each on its own copy of the words, with some noise past
+/// them.
+pub fn every_call(host: &impl Engine, tally: &mut Tally, random: &mut Random, state: &[u32]) {
     let past = random.index(5);
     calls_with_past(host, tally, random, state, past);
 }
@@ -116,6 +116,7 @@ fn calls_with_past(
     };
     let flow = if random.percent(5) { random.word() } else { random.from(0, flows as i64) as u32 };
     engine::offer(host, tally, &mut Twin::words(random, state, past), flow);
+    engine::offer_trial(host, tally, &mut Twin::words(random, state, past), flow);
     let filled = &mut Twin::words(random, state, past);
     sets::on_words(host, tally, random, filled, flows as usize);
     let room = match random.from(0, 9) {
@@ -161,7 +162,7 @@ pub fn round(host: &impl Engine, tally: &mut Tally, random: &mut Random, sx: i64
     let flows = random::flow_count(random);
     let plan = random::plan(random, sx, sy, flows);
     let state = random::state(random, &plan);
-    five_calls(host, tally, random, &state);
+    every_call(host, tally, random, &state);
     let mut run = Twin::words(random, &state, 2);
     let mut kept = Kept::new(random, flows);
     for _ in 0..random.from(1, 12) {
@@ -173,13 +174,13 @@ pub fn round(host: &impl Engine, tally: &mut Tally, random: &mut Random, sx: i64
     for _ in 0..8 {
         let mut damaged = state.clone();
         damage(random, &plan, &mut damaged);
-        five_calls(host, tally, random, &damaged);
+        every_call(host, tally, random, &damaged);
     }
     let file = plan.file(&random::notes(random, &plan));
     let length = (plan.state_words() + random.index(4)).saturating_sub(1);
     let mut memory = Twin::noise_words(random, length);
     engine::reset(host, tally, &file, &mut memory);
-    five_calls(host, tally, random, memory.expected());
+    every_call(host, tally, random, memory.expected());
     let mut damaged = file;
     plans::damage(random, &mut damaged);
     engine::reset(host, tally, &damaged, &mut memory);
