@@ -5,11 +5,12 @@
 
 use second::book::Book;
 use second::compare::sets::list;
-use second::promises::{check, check_live, check_set, windows};
+use second::promises::{check, check_live, check_set, check_trial, windows};
 use second::random::{Random, plan};
 use second::state::{judge, words};
 
-/// A list of so many calls: offers, some of them to a flow that isn't there, sets and steps.
+/// A list of so many calls: offers of the sonar and of the generator, some of them to a flow that isn't
+/// there, sets and steps.
 fn run(random: &mut Random, mut book: Book, calls: usize) {
     let flows = book.plan.flows.len();
     let watched = random.index(flows);
@@ -22,6 +23,10 @@ fn run(random: &mut Random, mut book: Book, calls: usize) {
             let (before, set) = (book.clone(), list(random, flows));
             let answer = book.offer_set(&set);
             check_set(&before, &set, answer, &book);
+        } else if random.percent(10) {
+            let (before, flow) = (book.clone(), random.index(flows + 1) as u32);
+            let answer = book.offer_trial(flow);
+            check_trial(&before, flow, answer, &book);
         } else if random.percent(offers) {
             let flow = random.index(flows + 1) as u32;
             assert_eq!(book.offer(flow).is_ok(), (flow as usize) < flows);

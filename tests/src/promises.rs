@@ -1,8 +1,10 @@
-//! What 01 promises of the book after every list, and U4 of a set, asserted on its own lines.
+//! What 01 promises of the book after every list, U4 of a set and U6 of the trial generator's offer,
+//! asserted on its own lines.
 
 use crate::book::{Book, Delivery, Line};
 use crate::calls::Answer;
-use crate::plan::Refusal;
+use crate::offers::MOST_TRIAL;
+use crate::plan::{Refusal, refuse};
 use crate::window::window;
 
 /// The windows of the flows whose entry promise is watched (None: not watched, or no window).
@@ -47,6 +49,16 @@ pub fn check_set(before: &Book, flows: &[u32], answer: Answer, after: &Book) {
     assert_eq!(answer, refused.map_or(Ok(0), Err), "the first entry that is refused");
     let left = if refused.is_some() { before } else { &single };
     assert!(after == left, "all at once, one by one: {flows:?}");
+}
+
+/// U6 on an offer of the generator that was answered so: where 255 packets or more of the flow
+/// wait, 18 and the book as it was; else what the sonar's offer answers and leaves.
+pub fn check_trial(before: &Book, flow: u32, answer: Answer, after: &Book) {
+    let mut of_sonar = before.clone();
+    let waiting = before.waiting.get(flow as usize).map_or(0, |lines| lines.len());
+    let expected = if waiting >= MOST_TRIAL { refuse(18, 0) } else { of_sonar.offer(flow) };
+    assert_eq!(answer, expected, "{waiting} wait in flow {flow}");
+    assert!(after == &of_sonar, "the generator's packet of flow {flow}, and the sonar's");
 }
 
 fn check_line(book: &Book, windows: &Windows, line: &Line) {
