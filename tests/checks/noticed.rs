@@ -9,6 +9,7 @@ mod faults {
     pub mod records;
     pub mod sets;
     pub mod simulator;
+    pub mod trial;
 }
 
 use faults::simulator::{Calls, Host};
@@ -56,6 +57,19 @@ fn in_recent_flights() -> Vec<Planted<'static>> {
 fn in_sets() -> Vec<Planted<'static>> {
     use faults::sets::{FAULTS, Faulty};
     FAULTS.iter().map(|(name, fault)| of_the_engine(*name, Faulty(*fault))).collect()
+}
+
+fn in_trial_offers() -> Vec<Planted<'static>> {
+    use faults::trial::{FAULTS, Faulty, OwnCounted, StoppedOffers, StoppedSets};
+    let mut planted: Vec<_> =
+        FAULTS.iter().map(|(name, fault)| of_the_engine(*name, Faulty(*fault))).collect();
+    planted.push(of_the_engine("the generator's own packets counted", OwnCounted::default()));
+    for number in [13, 18] {
+        let name = |calls: &str| format!("the sonar's {calls} stopped at 255 with {number}");
+        planted.push(of_the_engine(name("offers"), StoppedOffers(number)));
+        planted.push(of_the_engine(name("sets"), StoppedSets(number)));
+    }
+    planted
 }
 
 fn in_the_bounds() -> Vec<Planted<'static>> {
@@ -118,8 +132,14 @@ fn is_noticed(compared: &dyn Fn()) -> bool {
 fn faults_are_noticed() {
     let hook = take_hook();
     set_hook(Box::new(|_| ()));
-    let planted =
-        [in_the_engine(), in_recent_flights(), in_sets(), in_the_bounds(), in_the_listing()];
+    let planted = [
+        in_the_engine(),
+        in_recent_flights(),
+        in_sets(),
+        in_trial_offers(),
+        in_the_bounds(),
+        in_the_listing(),
+    ];
     let missed: Vec<_> = planted
         .iter()
         .flatten()

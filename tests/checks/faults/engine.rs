@@ -190,7 +190,7 @@ pub const FAULTS: &[(&str, Fault)] = &[
 ];
 
 /// The calls that judge the words of a state.
-pub const JUDGES: &[&str] = &["offer", "offer_set", "step", "recent", "write"];
+pub const JUDGES: &[&str] = &["offer", "offer_trial", "offer_set", "step", "recent", "write"];
 
 /// Faults that each of them may have: a bucket judged as though it were another.
 pub const JUDGED: &[(&str, Fault)] = &[
