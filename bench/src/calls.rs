@@ -10,6 +10,8 @@ use std::hint::black_box;
 const BATCH: usize = 50;
 /// The entries of a long list. A batch of them fits into the queues, as every flow comes in turn.
 const LONG: usize = 4096;
+/// The packets of every flow that wait for the trial generator's offers. A batch of them is accepted.
+const FEW: u32 = 100;
 
 /// The cases of these loads whose plans both sides take.
 fn cases(loads: &[Load], taken: impl Fn(&Case) -> bool) -> Vec<Case> {
@@ -61,7 +63,8 @@ fn all_bounds(host: &impl Bounds, case: &Case) {
     }
 }
 
-/// Step, offer, sets of offers, recent flights, reset and write: the calls that both sides have.
+/// Step, offer, the trial generator's offer, sets of offers, recent flights, reset and write: the calls
+/// that both sides have.
 pub fn engine(sides: Sides, first: &impl Engine, second: &impl Engine) {
     let taken = |case: &Case| sides.both(|| is_reset(first, case), || is_reset(second, case));
     sides.print_header();
@@ -75,8 +78,24 @@ pub fn engine(sides: Sides, first: &impl Engine, second: &impl Engine) {
         print_row(
             "offer",
             &case,
-            sides.alternate(BATCH, offers(first, &case, &state), offers(second, &case, &state)),
+            sides.alternate(
+                BATCH,
+                offers(&case, &state, |words, flow| first.offer(words, flow)),
+                offers(&case, &state, |words, flow| second.offer(words, flow)),
+            ),
         );
+        if sides.both_have("hrt_offer_trial") {
+            let state = case.with_waiting(state.clone(), FEW);
+            print_row(
+                "trial",
+                &case,
+                sides.alternate(
+                    BATCH,
+                    offers(&case, &state, |words, flow| first.offer_trial(words, flow)),
+                    offers(&case, &state, |words, flow| second.offer_trial(words, flow)),
+                ),
+            );
+        }
         if sides.both_have("hrt_offer_set") {
             for (name, entries) in [("set", case.flows), ("set 4096", LONG)] {
                 print_row(
@@ -133,13 +152,14 @@ fn steps(host: &impl Engine, case: &Case, state: &[u32]) -> impl FnMut() {
     }
 }
 
-fn offers(host: &impl Engine, case: &Case, state: &[u32]) -> impl FnMut() {
+/// Single offers by this call, with every flow in turn.
+fn offers(case: &Case, state: &[u32], offer: impl Fn(&mut [u32], u32) -> u64) -> impl FnMut() {
     let mut memory = state.to_vec();
     let flows = case.flows;
     move || {
         memory.copy_from_slice(state);
         for call in 0..BATCH {
-            black_box(host.offer(&mut memory, (call % flows) as u32));
+            black_box(offer(&mut memory, (call % flows) as u32));
         }
     }
 }

@@ -5,6 +5,7 @@ use crate::plain::Plain;
 use second::host::Engine;
 use second::plan::{Flow, MOST_PERIOD, Plan};
 use second::random::Random;
+use second::state::waiting_at;
 
 /// How much traffic a plan asks for.
 #[derive(Clone, Copy, Debug, PartialEq)]
@@ -78,11 +79,17 @@ impl Case {
         let mut state = vec![0; self.words()];
         let mut delivery = vec![0; 5 * self.routers()];
         Plain.reset(&self.file, &mut state);
-        for flow in 0..self.flows {
-            state[8 + 10 * flow + 9] = 30_000;
-        }
+        state = self.with_waiting(state, 30_000);
         for _ in 0..300 {
             Plain.step(&mut state, &mut delivery);
+        }
+        state
+    }
+
+    /// The state, but for so many packets of every flow that wait.
+    pub fn with_waiting(&self, mut state: Vec<u32>, waiting: u32) -> Vec<u32> {
+        for flow in 0..self.flows {
+            state[waiting_at(flow)] = waiting;
         }
         state
     }
