@@ -6,6 +6,7 @@ mod faults {
     pub mod files;
     pub mod lines;
     pub mod periods;
+    pub mod trial_lines;
 }
 
 use second::compare::Tally;
@@ -21,7 +22,12 @@ fn faults_are_noticed() {
     let hook = take_hook();
     set_hook(Box::new(|_| ()));
     let mut missed = Vec::new();
-    let planted = [faults::desk::FAULTS, faults::lines::FAULTS, faults::periods::FAULTS];
+    let planted = [
+        faults::desk::FAULTS,
+        faults::lines::FAULTS,
+        faults::periods::FAULTS,
+        faults::trial_lines::FAULTS,
+    ];
     for (name, caller, reason) in planted.concat() {
         match difference(&desk, caller) {
             Some(told) if told.contains(reason) => {}
