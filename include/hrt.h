@@ -1,12 +1,12 @@
 /* The C interface of Kimboryu. Link with target/staticlib/libhost.a (rt staticlib host).
  *
  * Memory is lent as a pointer and a count of its elements. The pointer is not null, even for a count of 0.
- * Memories lent to one call don't overlap: hrt_reset's plan and state, hrt_step's state and delivery, hrt_recent's records and
- * its state or deliveries, hrt_write's target and its state or notes, hrt_offer_set's state and flows lie apart. Only what is
- * merely read may overlap, as hrt_write's state and notes.
+ * Memories lent to one call don't overlap: hrt_reset's plan and state, hrt_step's state and delivery, hrt_step_reasons' state,
+ * delivery and reasons, hrt_recent's records and its state or deliveries, hrt_write's target and its state or notes,
+ * hrt_offer_set's state and flows lie apart. Only what is merely read may overlap, as hrt_write's state and notes.
  * The functions have no memory of their own. Calls may run at once, in several threads, if what one of them writes is lent to
- * no other: all may read one plan, and a state is in one hrt_reset, hrt_offer, hrt_offer_trial, hrt_offer_set or hrt_step at a
- * time.
+ * no other: all may read one plan, and a state is in one hrt_reset, hrt_offer, hrt_offer_trial, hrt_offer_set, hrt_step or
+ * hrt_step_reasons at a time.
  *
  * A refused call changes nothing that was lent to it.
  * hrt_window answers the window T, 1 to 65,535, or 65,536 + the refusal number.
@@ -30,6 +30,14 @@ extern "C" {
 #define HRT_MOST_TRIAL 255          /* as many, whoever offered them: one more of the trial generator is refused with 18 */
 #define HRT_LAST_CLOCK 4294967295u  /* a step in this cycle is refused with 11 */
 #define HRT_MOST_RECENT 16          /* deliveries that a record may hold; the least is 1 */
+
+/* Whether a flow entered in a step, or why it didn't: the first of these that applies, judged on the state before the step. */
+#define HRT_REASON_ENTERED 0         /* it entered */
+#define HRT_REASON_NOTHING_WAITING 1 /* nothing waiting */
+#define HRT_REASON_NO_TOKEN 2        /* no token */
+#define HRT_REASON_WEST_HELD 3       /* its port is E and W held a packet */
+#define HRT_REASON_SOUTH_TAKEN 4     /* its port is S and a network packet took S; one that exits there takes S too */
+#define HRT_REASON_LOWER_ENTERED 5   /* a lower-numbered flow of its client entered */
 
 /* The words of a state, and the fewest that may be lent for the deliveries of a step. */
 #define HRT_STATE_WORDS(flows, sx, sy) ((size_t)8 + 10 * (size_t)(flows) + 8 * (size_t)(sx) * (size_t)(sy))
@@ -75,6 +83,11 @@ uint64_t hrt_offer_set(uint32_t *state, size_t state_words, const uint32_t *flow
 /* One cycle. Answers the number of exits, for each of which it delivers five words: flow, serial, entry cycle, exit cycle,
  * deflections. The delivery memory has at least HRT_DELIVERY_WORDS(Sx, Sy) words. */
 uint64_t hrt_step(uint32_t *state, size_t state_words, uint32_t *delivery, size_t delivery_words);
+
+/* As hrt_step, and also writes a word for each flow, flow n's at place n: an HRT_REASON_. Words after the last flow stay. Fewer
+ * words than flows are refused with 19, after 11. */
+uint64_t hrt_step_reasons(uint32_t *state, size_t state_words, uint32_t *delivery, size_t delivery_words,
+                          uint32_t *reasons, size_t reason_words);
 
 /* The last deliveries of a flow: how many are held, the longest flight and the most deflections among them, then the flight and
  * the deflections of each, oldest first, zeros behind. All zeros holds none. In C++ it is always struct hrt_recent, since the

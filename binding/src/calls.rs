@@ -32,6 +32,14 @@ mod raw {
             delivery: *mut u32,
             delivery_words: usize,
         ) -> u64;
+        pub fn hrt_step_reasons(
+            state: *mut u32,
+            state_words: usize,
+            delivery: *mut u32,
+            delivery_words: usize,
+            reasons: *mut u32,
+            reason_words: usize,
+        ) -> u64;
         pub fn hrt_recent(
             state: *const u32,
             state_words: usize,
@@ -99,6 +107,15 @@ pub fn offer_set(state: &mut [u32], flows: &[u32]) -> u64 {
 pub fn step(state: &mut [u32], delivery: &mut [u32]) -> u64 {
     let (words, room) = (state.len(), delivery.len());
     unsafe { raw::hrt_step(state.as_mut_ptr(), words, delivery.as_mut_ptr(), room) }
+}
+
+/// One cycle, which also writes a word for each flow: why it didn't enter, 1 to 5, or 0 if it did.
+/// Answers the number of exits.
+#[inline]
+pub fn step_reasons(state: &mut [u32], delivery: &mut [u32], reasons: &mut [u32]) -> u64 {
+    let (words, room, told) = (state.len(), delivery.len(), reasons.len());
+    let (state, delivery) = (state.as_mut_ptr(), delivery.as_mut_ptr());
+    unsafe { raw::hrt_step_reasons(state, words, delivery, room, reasons.as_mut_ptr(), told) }
 }
 
 /// Feeds deliveries, five words each, to the records of their flows, which then hold the last ones,

@@ -2,9 +2,10 @@
 //! in Rattle and linked from `target/staticlib/libhost.a`.
 //!
 //! A host reads a [`Plan`], asks the bounds of its flows, resets it into a [`State`], and then
-//! offers packets, one by one or several at once, and steps; a [`Recent`] for each flow holds its
-//! last deliveries. Every answer is the archive's: [`Answer::Done`] with a value, or
-//! [`Answer::Refused`] with a number of README's table and a place. A refused call changes nothing.
+//! offers packets, one by one or several at once, and steps; a step may tell each flow's [`Reason`],
+//! and a [`Recent`] for each flow holds its last deliveries. Every answer is the archive's:
+//! [`Answer::Done`] with a value, or [`Answer::Refused`] with a number of README's table and a place.
+//! A refused call changes nothing.
 //!
 //! ```
 //! # fn main() -> Result<(), hrt::Refusal> {
@@ -40,10 +41,12 @@ mod answer;
 pub mod calls;
 pub mod limits;
 mod plan;
+mod reason;
 mod recent;
 mod state;
 
 pub use answer::{Answer, Refusal};
 pub use plan::Plan;
+pub use reason::Reason;
 pub use recent::Recent;
 pub use state::{Delivery, Flow, Packet, State};

@@ -126,8 +126,30 @@ impl State {
     /// One cycle: the packets that leave, routers by row, then column. Refusal 11.
     #[inline]
     pub fn step(&mut self) -> Result<impl ExactSizeIterator<Item = Delivery> + '_, Refusal> {
+        let answer = calls::step(&mut self.words, &mut self.delivery);
+        self.deliver(answer)
+    }
+
+    /// A [step](State::step) that also writes a word for each flow: whether it entered or why it
+    /// didn't, a [`Reason`](crate::Reason). Words after the last flow stay. Refusals 11, and 19 with
+    /// fewer words than flows.
+    #[inline]
+    pub fn step_reasons(
+        &mut self,
+        reasons: &mut [u32],
+    ) -> Result<impl ExactSizeIterator<Item = Delivery> + '_, Refusal> {
+        let answer = calls::step_reasons(&mut self.words, &mut self.delivery, reasons);
+        self.deliver(answer)
+    }
+
+    /// What a step that answered this delivered.
+    #[inline]
+    fn deliver(
+        &mut self,
+        answer: u64,
+    ) -> Result<impl ExactSizeIterator<Item = Delivery> + '_, Refusal> {
         self.delivered = 0;
-        let exits = Answer::of(calls::step(&mut self.words, &mut self.delivery)).done()?;
+        let exits = Answer::of(answer).done()?;
         self.delivered = EXIT_WORDS * exits as usize;
         let words = &self.delivery[..self.delivered];
         Ok(words.chunks_exact(EXIT_WORDS).map(|exit| Delivery {
@@ -305,6 +327,21 @@ mod tests {
         assert_eq!(number(&mut records[..1], 0), Refusal { number: 16, place: 0 });
         assert_eq!(number(&mut records, 0), Refusal { number: 17, place: 0 });
         assert_eq!(number(&mut records, 17), Refusal { number: 17, place: 0 });
+    }
+
+    #[test]
+    fn a_step_tells_why_a_flow_waits() {
+        let mut state = State::fresh(4, 4, &[FLOW, FLOW]).unwrap();
+        let mut reasons = [9; 3];
+        state.offer_set(&[0, 0, 0, 1]).done().unwrap();
+        for told in [[0, 5, 9], [0, 5, 9], [2, 0, 9], [2, 1, 9]] {
+            assert_eq!(state.step_reasons(&mut reasons).unwrap().len(), 0);
+            assert_eq!(reasons, told);
+        }
+        let before = state.clone();
+        let short = Refusal { number: 19, place: 0 };
+        assert_eq!(state.step_reasons(&mut reasons[..1]).err(), Some(short));
+        assert_eq!((state, reasons), (before, [2, 1, 9]));
     }
 
     #[test]

@@ -1,13 +1,14 @@
-//! What src/calls.rs and src/recent.rs declare and src/limits.rs names is what include/hrt.h says.
+//! What src/calls.rs, src/recent.rs and src/reason.rs declare and src/limits.rs names is what
+//! include/hrt.h says.
 
 use hrt::limits::*;
-use hrt::Recent;
+use hrt::{Reason, Recent};
 
 const HEADER: &str = include_str!("../../include/hrt.h");
 const CALLS: &str = include_str!("../src/calls.rs");
 const RECENT: &str = include_str!("../src/recent.rs");
 
-/// The header's macros that decode an answer; all others are limits.
+/// The header's macros that decode an answer; all others are reasons or limits.
 const DECODINGS: [&str; 5] = [
     "HRT_IS_REFUSED(answer)",
     "HRT_NUMBER(answer)",
@@ -15,6 +16,9 @@ const DECODINGS: [&str; 5] = [
     "HRT_WINDOW_IS_REFUSED(answer)",
     "HRT_WINDOW_NUMBER(answer)",
 ];
+
+/// What the names of the header's reasons begin with.
+const REASON: &str = "HRT_REASON_";
 
 /// The limits as the header would define them by the binding's.
 fn limits() -> Vec<(&'static str, String)> {
@@ -59,7 +63,7 @@ fn functions_are_the_headers() {
 fn limits_are_the_headers() {
     let limits = limits();
     let mut found = macros();
-    found.retain(|(name, _)| !DECODINGS.contains(&name.as_str()));
+    found.retain(|(name, _)| !DECODINGS.contains(&name.as_str()) && !name.starts_with(REASON));
     for ((name, text), (limit, expected)) in found.iter().zip(&limits) {
         let found = (name.as_str(), text);
         assert_eq!(
@@ -69,6 +73,26 @@ fn limits_are_the_headers() {
         );
     }
     assert_eq!(found.len(), limits.len(), "limits of include/hrt.h and binding/src/limits.rs");
+}
+
+#[test]
+fn reasons_are_the_headers() {
+    let mut found = macros();
+    found.retain(|(name, _)| name.starts_with(REASON));
+    let expected = Reason::ALL.map(|reason| (in_capitals(reason), (reason as u32).to_string()));
+    assert_eq!(found, expected, "include/hrt.h is on the left, binding/src/reason.rs on the right");
+}
+
+/// The name that the header has for a reason: `HRT_REASON_NO_TOKEN` for `NoToken`.
+fn in_capitals(reason: Reason) -> String {
+    let mut name = REASON.to_string();
+    for (at, letter) in format!("{reason:?}").char_indices() {
+        if at > 0 && letter.is_uppercase() {
+            name.push('_');
+        }
+        name.push(letter.to_ascii_uppercase());
+    }
+    name
 }
 
 #[test]
