@@ -42,6 +42,10 @@ impl Engine for Archive {
         calls::step(state, delivery)
     }
 
+    fn step_reasons(&self, state: &mut [u32], delivery: &mut [u32], reasons: &mut [u32]) -> u64 {
+        calls::step_reasons(state, delivery, reasons)
+    }
+
     fn recent(&self, state: &[u32], deliveries: &[u32], records: &mut [Record], last: u32) -> u64 {
         calls::recent(state, deliveries, as_bound(records), last)
     }

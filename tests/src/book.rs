@@ -1,5 +1,5 @@
 //! The packet book, by 01's "The packet book" and "One cycle": one line per accepted packet. Its offers
-//! are in `offers`.
+//! are in `offers`, the step that tells reasons in `reasons`.
 //! The lines are the truth; what else the book keeps (which lines wait, which have a place, how
 //! many have entered) is an index of them, for speed, checked against the lines in `promises`.
 
@@ -190,7 +190,7 @@ impl Book {
     fn enter_lines(&mut self, old: &[Option<usize>], exits: &mut Vec<(Router, usize)>) {
         let mut taken = vec![false; self.plan.routers()];
         for flow in 0..self.plan.flows.len() {
-            let client = Router { row: self.plan.flows[flow].ys, column: self.plan.flows[flow].xs };
+            let client = self.client(flow);
             let number = self.place_number(Place { router: client, side: Side::W }) / 2;
             let ready = !self.waiting[flow].is_empty() && self.buckets[flow].tokens > 0;
             if ready && !taken[number] && self.port_open(old, client, self.plan.port(flow)) {
@@ -199,6 +199,11 @@ impl Book {
             }
             self.count_bucket(flow);
         }
+    }
+
+    /// The router of a flow's client.
+    pub fn client(&self, flow: usize) -> Router {
+        Router { row: self.plan.flows[flow].ys, column: self.plan.flows[flow].xs }
     }
 
     fn port_open(&self, old: &[Option<usize>], router: Router, port: Port) -> bool {

@@ -62,6 +62,16 @@ pub fn step(memory: &mut [u32], delivery: &mut [u32]) -> Answer {
     Ok(exits.len() as u64 / 5)
 }
 
+/// A step with reasons: 8 and 9, then 10, 11, 19.
+pub fn step_reasons(memory: &mut [u32], delivery: &mut [u32], reasons: &mut [u32]) -> Answer {
+    let (room, told) = (delivery.len(), reasons.len());
+    let (exits, why) = change(memory, |book| book.step_reasons(room, told))?;
+    let exits = exits.concat();
+    delivery[..exits.len()].copy_from_slice(&exits);
+    reasons[..why.len()].copy_from_slice(&why);
+    Ok(exits.len() as u64 / 5)
+}
+
 /// Recent flights: 8 and 9, then 16, 17, 12.
 pub fn recent(memory: &[u32], deliveries: &[u32], records: &mut [Record], last: u32) -> Answer {
     let plan = judge(memory)?.plan;

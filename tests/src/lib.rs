@@ -1,6 +1,6 @@
 //! A second simulator of the torus engine and a second reckoning of its bounds, written from
-//! 01's text by the packet book's lines, and of U1's records, U4's sets and U5's periods from 02's; and
-//! the comparison of another engine with it.
+//! 01's text by the packet book's lines, and of U1's records, U4's sets, U5's periods and U7's reasons
+//! from 02's; and the comparison of another engine with it.
 
 #[cfg(any(feature = "bounds", feature = "engine"))]
 pub mod archive;
@@ -13,6 +13,7 @@ pub mod offers;
 pub mod plan;
 pub mod promises;
 pub mod random;
+pub mod reasons;
 pub mod recent;
 pub mod slips;
 pub mod state;

@@ -5,19 +5,20 @@ use second::host::{Engine, returned};
 use second::plan::refuse;
 use second::recent::Record;
 
-/// What a call gave, for a fault to change: its answer, the state, the deliveries of a step and
-/// the target of writing.
+/// What a call gave, for a fault to change: its answer, the state, the deliveries and the reasons of a
+/// step and the target of writing.
 pub struct Given<'a> {
     pub call: &'static str,
     pub answer: u64,
     pub state: &'a mut [u32],
     pub delivery: &'a mut [u32],
+    pub reasons: &'a mut [u32],
     pub target: &'a mut [u8],
 }
 
 impl<'a> Given<'a> {
     fn new(call: &'static str, answer: u64, state: &'a mut [u32]) -> Given<'a> {
-        Given { call, answer, state, delivery: &mut [], target: &mut [] }
+        Given { call, answer, state, delivery: &mut [], reasons: &mut [], target: &mut [] }
     }
 }
 
@@ -46,6 +47,10 @@ pub trait Calls {
 
     fn step(&self, state: &mut [u32], delivery: &mut [u32]) -> u64 {
         returned(calls::step(state, delivery))
+    }
+
+    fn step_reasons(&self, state: &mut [u32], delivery: &mut [u32], reasons: &mut [u32]) -> u64 {
+        returned(calls::step_reasons(state, delivery, reasons))
     }
 
     fn recent(&self, state: &[u32], deliveries: &[u32], records: &mut [Record], last: u32) -> u64 {
@@ -89,6 +94,11 @@ impl<C: Calls> Engine for Host<C> {
     fn step(&self, state: &mut [u32], delivery: &mut [u32]) -> u64 {
         let answer = self.0.step(state, delivery);
         self.0.give(Given { delivery, ..Given::new("step", answer, state) })
+    }
+
+    fn step_reasons(&self, state: &mut [u32], delivery: &mut [u32], reasons: &mut [u32]) -> u64 {
+        let answer = self.0.step_reasons(state, delivery, reasons);
+        self.0.give(Given { delivery, reasons, ..Given::new("step_reasons", answer, state) })
     }
 
     fn recent(&self, state: &[u32], deliveries: &[u32], records: &mut [Record], last: u32) -> u64 {
