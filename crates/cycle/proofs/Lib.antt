@@ -3,3 +3,4 @@ pub mod Facts
 pub mod Sent
 pub mod Offer
 pub mod Set
+pub mod Reasons

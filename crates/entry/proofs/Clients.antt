@@ -3,9 +3,9 @@ use mathlib.Core.Bool.{true}
 use mathlib.Core.List.{List}
 use mathlib.Core.Option.{Option, Option·some-injective, Option·some-ne-none}
 use mathlib.Core.Path.{_≡_, _∙_}
-use Prim.Native.Nat.{ℕ, zero, suc, _+_, _≤_, _<_}
+use Prim.Native.Nat.{ℕ, zero, suc, _+_, _*_, _≤_, _<_}
 use native.Mathlib.Omega.{arith}
-use lib.ListN.{length, getD, set}
+use lib.ListN.{length, getD, set, replicate, getD-replicate, length-replicate}
 use Rattle.laws.specs.Grid.{cellIndex}
 use Rattle.laws.proofs.Grid.{cell-below}
 use Rattle.flow.specs.declared.Flow.{Flow}
@@ -19,7 +19,12 @@ use Rattle.state.proofs.View.{view-count}
 use Rattle.cycle.specs.Seen.{view, enters}
 use Rattle.cycle.proofs.Facts.{flow-ok}
 use Rattle.entry.specs.Entrants.{entrantIn, Entrants}
-use Rattle.entry.proofs.Entrant.{xsOf, ysOf, entrants-taken, entrants-mark}
+use Rattle.entry.proofs.Entrant.{xsOf, ysOf, entrants-none, entrants-taken, entrants-mark}
+
+-- no entrants yet, in room for n of them
+pub no-entrants : (w : List ℕ) (n : ℕ) → sxIn w * syIn w ≤ n → Entrants (stateOf w) 0 (replicate n 0)
+unfolding stateOf planIn
+no-entrants w n h = entrants-none (stateOf w) (replicate n 0) (rw length-replicate h) (λ i k. getD-replicate n i 0 0 (omega arith))
 
 module _ (w : List ℕ) (s : StateFacts w) where
   -- a router has a place among the entrants

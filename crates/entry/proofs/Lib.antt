@@ -1,4 +1,5 @@
 -- The laws of entry.
 pub mod Entrant
 pub mod Clients
+pub mod Turn
 pub mod Tally

@@ -2,19 +2,19 @@
 -- flows enter. Rests on specs/Rule.
 use mathlib.Core.Bool.{Bool, true, false, _&&_, false≢true}
 use mathlib.Core.Logic.{_⊎_, inl, inr}
-use mathlib.Core.Option.{Option, none, some}
+use mathlib.Core.Option.{Option, none, some, Option·some-ne-none}
 use mathlib.Core.Path.{_≡_, refl, sym, ap, subst, _∙_}
 use Prim.Native.Nat.{ℕ, _≤_, _<_}
 use native.Mathlib.Decide.{ℕ-discrete, decLt}
 use native.Mathlib.Omega.{arith}
 use borrow.Author.Tests.{eq-eqb, eqb-true}
 use lib.ListN.{length}
-use Rattle.laws.proofs.Cases.{and-true, eqb-both, both-eqb}
+use Rattle.laws.proofs.Cases.{never, and-true, eqb-both, both-eqb}
 use Rattle.laws.proofs.Bounded.{First, nowhere, first-at, finds, first-same}
 use Rattle.flow.specs.Offsets.{portOf, sameClient}
 use Rattle.flow.specs.Plan.{Plan, flowAt}
 use Rattle.flow.specs.Ranges.{PlanOk}
-use Rattle.router.specs.Rule.{View, isOpen, ready, isClient, entrant, isFlow, enters}
+use Rattle.router.specs.Rule.{View, isOpen, ready, isClient, entrantBelow, entrant, isFlow, enters}
 
 module _ (p : Plan) (v : View) where
   -- a waiting packet, a token and an open port
@@ -104,6 +104,31 @@ module _ (p : Plan) (v : View) where
               | no other ↦ absurd (false≢true (sym (h .lowest f (omega arith)) ∙ rw (own, r)))
             ]
           ]
+
+  -- at its turn in the order of the flows a ready flow enters if its client has no entrant yet, and else it doesn't
+  module _ (f : ℕ) where
+    abbrev waiting-there : ℕ → Bool
+    waiting-there g = isClient p ((flowAt p f) .xs) ((flowAt p f) .ys) g && ready p v g
+
+    abbrev before : Option ℕ
+    before = entrantBelow p v ((flowAt p f) .xs) ((flowAt p f) .ys) f
+
+    pub first-enters : f < length (p .flows) → ready p v f ≡ true → before ≡ none → enters p v f ≡ true
+    first-enters in-plan r e = pick (some-enters f in-plan r) (finds waiting-there f) e
+      where
+        pick : {o : Option ℕ}
+            → (enters p v f ≡ true) ⊎ ((g : ℕ) × (g < f) × (sameClient (flowAt p f) (flowAt p g) ≡ true) × (enters p v g ≡ true))
+            → First waiting-there f o → o ≡ none → enters p v f ≡ true
+        pick (inl now) first e = now
+        pick (inr (g, l, same, other)) (nowhere low) e = absurd (false≢true (sym (low g l) ∙ rw (same, entering g other .is-ready)))
+        pick (inr h) (first-at g l t low) e = absurd (Option·some-ne-none g e)
+
+    pub later-waits : (before ≡ none → ⊥) → enters p v f ≡ false
+    later-waits some′ = never (enters p v f) (λ now. pick now (finds waiting-there f) some′)
+      where
+        pick : {o : Option ℕ} → enters p v f ≡ true → First waiting-there f o → (o ≡ none → ⊥) → ⊥
+        pick now (nowhere low) some′ = some′ refl
+        pick now (first-at g l t low) some′ = false≢true (sym (entering f now .lowest g l) ∙ t)
 
 -- two views that say the same of the plan's flows and of the torus's routers
 pub record Agree (p : Plan) (v w : View) : Type 0 where

@@ -1,4 +1,4 @@
-// One step on a state's words. Rests on valid, entry and routing.
+// One step on a state's words, and one that also tells why flows didn't enter. Rests on valid, entry, reasons and routing.
 use plan::Answer;
 ghost use mathlib.Core.Path.{_≡_};
 ghost use Prim.Native.Nat.{_+_, _*_, _<_, _≤_};
@@ -12,8 +12,9 @@ ghost use Rattle.router.specs.Delivery.{wordsOf};
 ghost use Rattle.state.specs.Facts.{StateFacts};
 ghost use Rattle.entry.specs.Entrants.{Entrants, AllEntered};
 ghost use Rattle.routing.specs.Walk.{registersIn, pushedAll};
-ghost use Rattle.step.specs.Next.{Stepping, Room, nextWords};
+ghost use Rattle.step.specs.Next.{Stepping, Judged, Room, nextWords};
 ghost use Rattle.cycle.specs.Step.{stepState, deliveries, stepOn};
+ghost use Rattle.cycle.specs.Reasons.{telling, stepReasonsOn};
 
 // Copies n words to a place.
 fn copy(from: &[u32], to: &mut [u32], at: usize, n: usize)
@@ -116,21 +117,44 @@ fn step_number(state: &[u32], delivery: &[u32]) -> u32
     0
 }
 
+// What refuses a step: the state's number, then the step's own; 0 if nothing does.
+fn refusal(state: &[u32], delivery: &[u32]) -> u32
+    ensures { λ r. ⌜ Judged (now (state .entry)) (now (delivery .entry)) r ⌝ }
+{
+    let number = valid::state_number(state);
+    if number != 0 {
+        return number;
+    }
+    step_number(state, delivery)
+}
+
 // One cycle of the torus: the count of exits, or the refusal.
 pub fn step(state: &mut [u32], delivery: &mut [u32]) -> Answer
     ensures { λ r. ⌜ outcome r (lent (now (state .exit)) (now (delivery .exit))) ≡ stepOn (now (state .entry)) (now (delivery .entry)) ⌝ }
 {
-    let number = valid::state_number(state);
+    let number = refusal(state, delivery);
     if number != 0 {
         return Answer::Refused { number, place: 0 };
     }
-    let other = step_number(state, delivery);
-    if other != 0 {
+    let exits = advance(state, delivery);
+    Answer::Done(exits)
+}
+
+// One cycle that also tells why each flow didn't enter, judged before it.
+pub fn step_reasons(state: &mut [u32], delivery: &mut [u32], reasons: &mut [u32]) -> Answer
+    ensures { λ r. ⌜ outcome r (telling (lent (now (state .exit)) (now (delivery .exit))) (now (reasons .exit))) ≡ stepReasonsOn (now (state .entry)) (now (delivery .entry)) (now (reasons .entry)) ⌝ }
+{
+    let number = refusal(state, delivery);
+    if number != 0 {
+        return Answer::Refused { number, place: 0 };
+    }
+    if reasons.len() < state[state::FLOWS] as usize {
         return Answer::Refused {
-            number: other,
+            number: 19,
             place: 0,
         };
     }
+    reasons::tell(state, reasons);
     let exits = advance(state, delivery);
     Answer::Done(exits)
 }

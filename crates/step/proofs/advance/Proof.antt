@@ -1,21 +1,11 @@
 -- `advance`: by the size of the torus, each with room for its routers.
-use mathlib.Core.List.{List}
-use Prim.Native.Nat.{ℕ, _*_, _≤_}
 use borrow.Author.Needs.{needs}
 use native.Mathlib.Omega.{arith}
-use lib.ListN.{replicate, getD-replicate, length-replicate}
 use Rattle.state.specs.Inner.{mostRouters}
-use Rattle.state.specs.Read.{sxIn, syIn, planIn, stateOf}
-use Rattle.entry.specs.Entrants.{Entrants}
-use Rattle.entry.proofs.Entrant.{entrants-none}
+use Rattle.entry.proofs.Clients.{no-entrants}
 use Rattle.cycle.proofs.Facts.{cells-most}
 use Rattle.step.proofs.advance.Statement.{statement}
 use Rattle.step.proofs.advance.Tie as tie
-
--- no entrants yet, in room for n of them
-none : (w : List ℕ) (n : ℕ) → sxIn w * syIn w ≤ n → Entrants (stateOf w) 0 (replicate n 0)
-unfolding stateOf planIn
-none w n h = entrants-none (stateOf w) (replicate n 0) (rw length-replicate h) (λ i k. getD-replicate n i 0 0 (omega arith))
 
 slice-read-routers : tie.Need-slice-read-routers
 slice-read-routers c = let long = c .before .before .before .pre .facts .long in omega arith
@@ -31,21 +21,21 @@ advance-in-requires c κs =
     let test = c .before .before .before .before in
     let p = test .before .before .before .before .before .pre in
     let small = test .if1 .taken in
-    record { stepping = p; registers-fit = omega arith; no-entrants = none _ 16 small }
+    record { stepping = p; registers-fit = omega arith; no-entrants = no-entrants _ 16 small }
 
 advance-in-requires-2 : tie.Need-advance-in-requires-2
 advance-in-requires-2 c κs =
     let test = c .before .before .before .before in
     let p = test .before .before .before .before .before .before .pre in
     let small = test .if2 .taken in
-    record { stepping = p; registers-fit = omega arith; no-entrants = none _ 64 small }
+    record { stepping = p; registers-fit = omega arith; no-entrants = no-entrants _ 64 small }
 
 advance-in-requires-3 : tie.Need-advance-in-requires-3
 advance-in-requires-3 c κs =
     let test = c .before .before .before .before in
     let p = test .before .before .before .before .before .before .pre in
     let most = cells-most _ (p .facts) in
-    record { stepping = p; registers-fit = omega arith; no-entrants = none _ mostRouters most }
+    record { stepping = p; registers-fit = omega arith; no-entrants = no-entrants _ mostRouters most }
 
 pub advance-spec : {M : Type 1} → statement M
 advance-spec =
