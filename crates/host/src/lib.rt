@@ -13,6 +13,7 @@ ghost use Rattle.state.specs.Writing.{writeOn};
 ghost use Rattle.cycle.specs.Offer.{offerOn};
 ghost use Rattle.cycle.specs.Set.{offerSetOn};
 ghost use Rattle.cycle.specs.Step.{stepOn};
+ghost use Rattle.cycle.specs.Reasons.{telling, stepReasonsOn};
 ghost use Rattle.feed.specs.Feed.{feedOn};
 
 // The window call's answer as a number.
@@ -109,6 +110,18 @@ pub extern "C" fn hrt_step(state: &mut [u32], delivery: &mut [u32]) -> u64
     ensures { λ r. ⌜ outcome r (lent (now (state .exit)) (now (delivery .exit))) ≡ inWords (stepOn (now (state .entry)) (now (delivery .entry))) ⌝ }
 {
     answer_word(step::step(state, delivery))
+}
+
+// One cycle, its exits, and why each flow didn't enter.
+#[no_mangle]
+pub extern "C" fn hrt_step_reasons(
+    state: &mut [u32],
+    delivery: &mut [u32],
+    reasons: &mut [u32],
+) -> u64
+    ensures { λ r. ⌜ outcome r (telling (lent (now (state .exit)) (now (delivery .exit))) (now (reasons .exit))) ≡ inWords (stepReasonsOn (now (state .entry)) (now (delivery .entry)) (now (reasons .entry))) ⌝ }
+{
+    answer_word(step::step_reasons(state, delivery, reasons))
 }
 
 // A step's deliveries, each at its flow's record of the last L.
