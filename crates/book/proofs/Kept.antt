@@ -21,16 +21,17 @@ use Rattle.flow.specs.Plan.{Plan, flowAt}
 use Rattle.flow.specs.Ranges.{PlanOk}
 use Rattle.window.specs.Window.{interference}
 use Rattle.router.specs.Delivery.{Delivery}
+use Rattle.router.specs.Reasons.{reasonWords}
 use Rattle.book.specs.Line.{Line, isWaiting}
 use Rattle.book.specs.Book.{Book, ofFlow, waitsFor, waitingOf, enteredOf, start, offered, offeredFirst, offeredLine}
-use Rattle.book.specs.Cycle.{enters, move, stepped}
+use Rattle.book.specs.Cycle.{view, enters, move, stepped}
 use Rattle.flow.specs.Limits.{roomFor, lastClock, mostWaiting, stepNumber}
 use Rattle.flow.proofs.Limits.{offer-passes}
 use Rattle.plan.specs.declared.Answer.{Answer}
 use Rattle.plan.specs.declared.Answer.the-variants.{Done, Refused}
 use Rattle.plan.specs.Set.{setNumber}
-use Rattle.plan.proofs.Refusals.{answer-done, first-done}
-use Rattle.book.specs.Feed.{Call, offer, offerSet, step, refusal, Fed, accepted, judged, feed, runFrom, run}
+use Rattle.plan.proofs.Refusals.{answer-done, or-else-done, first-done}
+use Rattle.book.specs.Feed.{Call, offer, offerSet, step, stepReasons, refusal, Fed, ran, accepted, judged, feed, runFrom, run}
 use Rattle.book.proofs.Moves.{turn, waited}
 use Rattle.book.proofs.Queue.{set-keeps, entered-step, entered-offer}
 use Rattle.book.proofs.Spans.{Lawful, lawful-start, lawful-offer, lawful-step}
@@ -59,12 +60,12 @@ early p length clock e =
     eqb-false _ _ (passed (eqb clock lastClock) 10 0 (long .1) .0)
 
 -- a call is refused, or it is an offer to a flow of the plan with room in its queue, a set of such offers, each counting the ones
--- before it, or a step before the last clock
+-- before it, or a step before the last clock, whatever it tells of reasons
 pub feed-cases : (p : Plan) (b : Book) (Q : Fed → Type 0)
-    → ((n place : ℕ) → Q (record { book = b; reply = Refused n place; delivered = [] }))
+    → ((n place : ℕ) → Q (record { book = b; reply = Refused n place; delivered = []; reasons = [] }))
     → ((who : Offerer) (f : ℕ) → Room p b f → Q (accepted p b (offer who f)))
     → ((flows : List ℕ) → ((k : ℕ) → k < length flows → Room p (offeredFirst b flows k) (getD flows k 0)) → Q (accepted p b (offerSet flows)))
-    → ((room : ℕ) → b .clock ≢ lastClock → Q (accepted p b (step room))) → (c : Call) → Q (feed p b c)
+    → ((reasons : List ℕ) → b .clock ≢ lastClock → Q (ran p b reasons)) → (c : Call) → Q (feed p b c)
 unfolding feed refusal setNumber
 feed-cases p b Q refuses offers sets steps c = by c (refusal p b c) refl
   where
@@ -73,7 +74,9 @@ feed-cases p b Q refuses offers sets steps c = by c (refusal p b c) refl
     by (offer who f) (Done v) e = offers who f (offer-passes who p f (waitingOf b f) (answer-done _ _ _ e))
     by (offerSet flows) (Done v) e =
         sets flows (λ k l. let f = getD flows k 0 in offer-passes Sonar p f (waitingOf (offeredFirst b flows k) f) (first-done _ _ _ e k l))
-    by (step words) (Done v) e = steps words (early p words (b .clock) (answer-done _ _ _ e))
+    by (step room) (Done v) e = steps [] (early p room (b .clock) (answer-done _ _ _ e))
+    by (stepReasons room told) (Done v) e =
+        steps (reasonWords p (view p b)) (early p room (b .clock) (answer-done _ _ _ (or-else-done _ _ _ e .1)))
 
 module _ (p : Plan) where
   pub kept-start : PlanOk p → Kept p (start p)
@@ -135,7 +138,7 @@ module _ (p : Plan) where
 
     pub kept-feed : (c : Call) → Kept p (feed p b c .book)
     kept-feed c =
-        feed-cases p b (λ (fed : Fed). Kept p (fed .book)) (λ n place. k) (λ who f room. kept-offer b k f room) kept-set (λ room early. kept-step b k early) c
+        feed-cases p b (λ (fed : Fed). Kept p (fed .book)) (λ n place. k) (λ who f room. kept-offer b k f room) kept-set (λ reasons early. kept-step b k early) c
 
     -- an offer lets nothing leave, nor does a set of them
     offered-leaves : (r : Delivery → Bool) (now : Book) (f : ℕ) → count (gone r) (offered now f .lines) ≡ count (gone r) (now .lines)
@@ -152,7 +155,7 @@ module _ (p : Plan) where
         (λ n place. omega arith)
         (λ who f room. omega (arith, offered-leaves r b f))
         (λ flows rooms. omega (arith, set-leaves r flows (length flows)))
-        (λ room early. step-delivered p b (k .lawful) r)
+        (λ reasons early. step-delivered p b (k .lawful) r)
         c
 
   kept-from : (cs : List Call) (b : Book) → Kept p b → Kept p (runFrom p b cs .book)

@@ -37,7 +37,7 @@ use Rattle.state.specs.Layout.{planSize}
 use Rattle.state.specs.Reset.{resetOn}
 use Rattle.reset.proofs.Leaves.{reset-done}
 use Rattle.writing.proofs.Back.{file-back}
-use Rattle.run.specs.List.{Whole, Asked, offer, offerSet, reset, Item, onMemory, memoryAfter, feeds, role, roleIn, IsList, fedAs, fed, due, Follows}
+use Rattle.run.specs.List.{justWords, Whole, Asked, offer, offerSet, reset, Item, onMemory, memoryAfter, feeds, role, roleIn, IsList, fedAs, fed, due, Follows}
 use Rattle.run.specs.Answers.{bookAfter, HasRun, EnteredBy, acceptedLine, entryLine, EveryAnswer}
 use Rattle.run.proofs.Memory.{plan-is}
 use Rattle.run.proofs.List.{does, every-list}
@@ -128,7 +128,7 @@ module _ (file words : List ℕ) (bytes : Bytes file) (done : (resetOn file word
     gone = left-by p φ (x .D) (b .clock) (follows .promised .deflections-most x m) (x .stage) (follows .promised .flies x m)
 
   -- a call fed to the book, which is answered by 0
-  module _ (c : Call) (i : Item) (feeds-it : role (i .asked) ≡ feeds c []) (no-reset : (g : List ℕ) → i .asked ≡ reset g → ⊥)
+  module _ (c : Call) (i : Item) (feeds-it : role (i .asked) ≡ feeds c (justWords [])) (no-reset : (g : List ℕ) → i .asked ≡ reset g → ⊥)
       (e : (onMemory memory i) .answer ≡ Done 0) where
     was-fed : (roleIn p i ≡ role (i .asked)) × ((feed p b c) .reply ≡ Done 0)
     was-fed =

@@ -27,7 +27,7 @@ use Rattle.book.proofs.Promises.{promises}
 use Rattle.state.specs.State.{resetState}
 use Rattle.state.specs.Words.{stateWords}
 use Rattle.state.specs.Forms.{stateNumber}
-use Rattle.state.specs.Outcome.{Outcome, outcome, unless, over}
+use Rattle.state.specs.Outcome.{Outcome, outcome, unless, unlessRefused, over}
 use Rattle.state.specs.Layout.{planSize}
 use Rattle.state.specs.Reset.{resetOn}
 use Rattle.state.specs.Writing.{writeOn}
@@ -36,15 +36,17 @@ use Rattle.reset.proofs.Leaves.{reset-done, leaves}
 use Rattle.cycle.specs.Offer.{offerOn}
 use Rattle.cycle.specs.Set.{offerSetOn}
 use Rattle.cycle.specs.Step.{stepOn}
+use Rattle.cycle.specs.Reasons.{stepReasonsOn}
 use Rattle.feed.specs.Feed.{feedOn}
-use Rattle.run.specs.List.{Beside, justWords, Whole, whole, Asked, offer, offerSet, step, write, recent, reset, onWords, Item, onMemory, memoryAfter}
+use Rattle.run.specs.List.{Beside, justWords, Whole, whole, Asked, offer, offerSet, step, stepReasons, write, recent, reset, onWords}
+use Rattle.run.specs.List.{Item, onMemory, memoryAfter}
 use Rattle.run.specs.List.{Role, feeds, between, resets, role, tooLittle, roleIn}
 use Rattle.run.specs.List.{IsList, fedAs, fed, beside, outcomes, bookMemory, due, expected}
 use Rattle.run.specs.List.{Follows, EveryList}
 use Rattle.run.specs.View.{bookState}
 use Rattle.run.proofs.Offer.{start-follows}
 use Rattle.run.proofs.Memory.{image, image-part, image-rest, number, short}
-use Rattle.run.proofs.Calls.{offer-on, set-on, step-on, write-on, recent-on}
+use Rattle.run.proofs.Calls.{offer-on, set-on, step-on, reasons-on, write-on, recent-on}
 use Rattle.run.proofs.Reset.{reset-refused}
 
 -- the outcomes of the fed calls, in order
@@ -72,7 +74,7 @@ fed-words p b c other =
     feed-cases p b
     (λ (now : Fed). take (wordCount (now .reply)) (over (wordsOf (now .delivered)) other) ≡ wordsOf (now .delivered))
     (λ n place. refl) (λ who f room. refl) (λ flows rooms. refl)
-    (λ room early. take-at (wordsOf (deliveries p b)) _ (5 * length (deliveries p b)) (words-length (deliveries p b)))
+    (λ reasons early. take-at (wordsOf (deliveries p b)) _ (5 * length (deliveries p b)) (words-length (deliveries p b)))
     c
 
 module _ (p : Plan) (words : List ℕ) where
@@ -128,16 +130,20 @@ module _ (p : Plan) (words : List ℕ) where
           enough (feed p b (Feed.offerSet flows) .book) (item (offerSet flows)) _ _ h (λ t. set-on p b k t flows)
       does-enough (step delivery) h may =
           enough (feed p b (Feed.step (length delivery)) .book) (item (step delivery)) _ _ h (λ t. step-on p b k t delivery)
+      does-enough (stepReasons delivery reasons) h may =
+          enough (feed p b (Feed.stepReasons (length delivery) (length reasons)) .book) (item (stepReasons delivery reasons)) _ _ h
+          (λ t. reasons-on p b k t delivery reasons)
       does-enough (write notes target) h may = enough b (item (write notes target)) _ _ h (λ t. write-on p b k t notes target)
       does-enough (recent deliveries last records) h may =
           enough b (item (recent deliveries last records)) _ _ h (λ t. recent-on p b k t deliveries last records)
       does-enough (reset file) h may = does-reset file may
 
       does-little : (c : Asked) → n < planSize p → May c → Does (item c) (tooLittle (role c))
-      unfolding offerOn offerSetOn stepOn writeOn feedOn unless
+      unfolding offerOn offerSetOn stepOn stepReasonsOn writeOn feedOn unless unlessRefused
       does-little (offer who f) few may = unchanged m (item (offer who f)) _ _ (rw (short p b tail k n few))
       does-little (offerSet flows) few may = unchanged m (item (offerSet flows)) _ _ (rw (short p b tail k n few))
       does-little (step delivery) few may = unchanged m (item (step delivery)) _ _ (rw (short p b tail k n few))
+      does-little (stepReasons delivery reasons) few may = unchanged m (item (stepReasons delivery reasons)) _ _ (rw (short p b tail k n few))
       does-little (write notes target) few may = unchanged m (item (write notes target)) _ _ (rw (short p b tail k n few))
       does-little (recent deliveries last records) few may = unchanged m (item (recent deliveries last records)) _ _ (rw (short p b tail k n few))
       does-little (reset file) few may = does-reset file may
@@ -169,7 +175,7 @@ module _ (p : Plan) (words : List ℕ) where
       record {
         answered = ap (λ rest. due p b words i (feeds call other) ∷ rest) (g .answered);
         replied = ap (λ rest. feed p b call .reply ∷ rest) (g .replied);
-        delivered = (λ j. fed-words p b call other j ++ g .delivered j) ∙ sym (words-append (feed p b call .delivered) _);
+        delivered = (λ j. fed-words p b call (other .words) j ++ g .delivered j) ∙ sym (words-append (feed p b call .delivered) _);
         state = g .state;
       }
   then b i (between tells other) cs g =

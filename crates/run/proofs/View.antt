@@ -12,7 +12,9 @@ use Rattle.flow.specs.Plan.{Plan}
 use Rattle.flow.specs.Ranges.{PlanOk}
 use Rattle.place.specs.Place.{Place, W, N}
 use Rattle.router.specs.Rule.{entrant}
+use Rattle.router.specs.Reasons.{reasonWords}
 use Rattle.router.proofs.Entrant.{Agree, entrant-same, enters-same}
+use Rattle.router.proofs.Reasons.{reasons-same}
 use Rattle.book.specs.Line.{Line}
 use Rattle.book.specs.Book.{Book, waitsFor}
 use Rattle.book.specs.Cycle.{linesIn, firstFlow, holds}
@@ -22,6 +24,7 @@ use Rattle.state.specs.declared.Tally.{Tally}
 use Rattle.state.specs.State.{tallyAt, cellAt}
 use Rattle.cycle.specs.Seen.{shown}
 use Rattle.cycle.specs.Seen as Seen
+use Rattle.cycle.specs.Reasons.{wordsOn}
 use Rattle.run.specs.View.{holding, registerOf, cellOf, tallyOf, bookState}
 
 module _ (p : Plan) (b : Book) where
@@ -63,3 +66,8 @@ module _ (p : Plan) (b : Book) where
   pub enters-agree : PlanOk p → (f : ℕ) → Seen.enters (bookState p b) f ≡ Cycle.enters p b f
   unfolding Seen.enters bookState
   enters-agree ok f = enters-same p ok (Seen.view (bookState p b)) (Cycle.view p b) views-agree f
+
+  -- and why the others don't
+  pub reasons-agree : PlanOk p → wordsOn (bookState p b) ≡ reasonWords p (Cycle.view p b)
+  unfolding bookState
+  reasons-agree ok = reasons-same p ok (Seen.view (bookState p b)) (Cycle.view p b) views-agree

@@ -1,5 +1,5 @@
 -- A whole list of calls on one state, after an accepted reset, and what it comes to: every answer, every word delivered and
--- every word of the state are the packet book's (01, The packet book; 02, U4, U6).
+-- every word of the state are the packet book's (01, The packet book; 02, U4, U6, U7).
 -- A later request's call is one case more of `Asked`, `onWords` and `role`; all else is said of any call.
 use mathlib.Core.Bool.{cond}
 use mathlib.Core.List.{List, [], _∷_, _++_}
@@ -16,7 +16,7 @@ use Rattle.file.specs.Layout.{planOf}
 use Rattle.plan.specs.Written.{planBytes}
 use Rattle.book.specs.Book.{Book, start}
 use Rattle.router.specs.Delivery.{wordsOf}
-use Rattle.book.specs.Feed.{Call, feed, runFrom, run}
+use Rattle.book.specs.Feed.{Call, Fed, feed, runFrom, run}
 use Rattle.book.specs.Feed as Feed
 use Rattle.book.specs.Promises.{Promises}
 use Rattle.state.specs.Words.{stateWords}
@@ -28,20 +28,26 @@ use Rattle.state.specs.Writing.{bytesOn, writeOn}
 use Rattle.cycle.specs.Offer.{offerOn}
 use Rattle.cycle.specs.Set.{offerSetOn}
 use Rattle.cycle.specs.Step.{stepOn}
+use Rattle.cycle.specs.Reasons.{Telling, stepReasonsOn}
 use Rattle.recent.specs.declared.Recent.{Recent}
 use Rattle.feed.specs.Feed.{plannedOn, feedOn}
 use Rattle.run.specs.View.{bookState}
 
--- what is lent to a call beside the state memory: a step's delivery memory or the target of writing; records of recent flights
+-- what is lent to a call beside the state memory: a step's delivery memory or the target of writing; a reason list; records of
+-- recent flights
 pub record Beside : Type 0 where
   pub words : List ℕ
+  pub reasons : List ℕ
   pub records : List Recent
 
+abbrev pub withReasons : (words reasons : List ℕ) → Beside
+withReasons words reasons = record { words = words; reasons = reasons; records = [] }
+
 abbrev pub justWords : List ℕ → Beside
-justWords words = record { words = words; records = [] }
+justWords words = withReasons words []
 
 abbrev pub justRecords : List Recent → Beside
-justRecords records = record { words = []; records = records }
+justRecords records = record { words = []; reasons = []; records = records }
 
 -- all memory lent to a call
 pub record Whole : Type 0 where
@@ -56,6 +62,7 @@ pub data Asked : Type 0 where
   offer : Offerer → (flow : ℕ) → Asked
   offerSet : (flows : List ℕ) → Asked
   step : (delivery : List ℕ) → Asked
+  stepReasons : (delivery reasons : List ℕ) → Asked
   write : (notes target : List ℕ) → Asked
   recent : (deliveries : List ℕ) → (last : ℕ) → (records : List Recent) → Asked
   reset : (file : List ℕ) → Asked
@@ -66,6 +73,9 @@ onWords (offer who flow) words = outcome ((offerOn who words flow) .answer) (who
 onWords (offerSet flows) words = outcome ((offerSetOn words flows) .answer) (whole ((offerSetOn words flows) .memory) (justWords []))
 onWords (step delivery) words =
     outcome ((stepOn words delivery) .answer) (whole ((stepOn words delivery) .memory .state) (justWords ((stepOn words delivery) .memory .other)))
+onWords (stepReasons delivery reasons) words =
+    let o : Outcome Answer Telling = stepReasonsOn words delivery reasons in
+    outcome (o .answer) (whole (o .memory .step .state) (withReasons (o .memory .step .other) (o .memory .reasons)))
 onWords (write notes target) words = outcome ((writeOn words notes target) .answer) (whole words (justWords ((writeOn words notes target) .memory)))
 onWords (recent deliveries last records) words =
     outcome ((feedOn words deliveries last records) .answer) (whole words (justRecords ((feedOn words deliveries last records) .memory)))
@@ -90,7 +100,7 @@ memoryAfter memory (i ∷ is) = memoryAfter ((onMemory memory i) .memory .state)
 -- a call's role in a list: it is fed to the book as this call; or it comes between, unfed, and plan and book tell its outcome; or it is
 -- a reset. The other memory is what is lent to it beside the state memory
 pub data Role : Type 0 where
-  feeds : Call → (other : List ℕ) → Role
+  feeds : Call → (other : Beside) → Role
   between : (Plan → Book → Outcome Answer Beside) → (other : Beside) → Role
   resets : Role
 
@@ -102,16 +112,17 @@ abbrev pub toRecords : Outcome Answer (List Recent) → Outcome Answer Beside
 toRecords o = outcome (o .answer) (justRecords (o .memory))
 
 abbrev pub role : Asked → Role
-role (offer who flow) = feeds (Feed.offer who flow) []
-role (offerSet flows) = feeds (Feed.offerSet flows) []
-role (step delivery) = feeds (Feed.step (length delivery)) delivery
+role (offer who flow) = feeds (Feed.offer who flow) (justWords [])
+role (offerSet flows) = feeds (Feed.offerSet flows) (justWords [])
+role (step delivery) = feeds (Feed.step (length delivery)) (justWords delivery)
+role (stepReasons delivery reasons) = feeds (Feed.stepReasons (length delivery) (length reasons)) (withReasons delivery reasons)
 role (write notes target) = between (λ p b. toWords (bytesOn (planBytes notes p) target)) (justWords target)
 role (recent deliveries last records) = between (λ p b. toRecords (plannedOn p deliveries last records)) (justRecords records)
 role (reset file) = resets
 
 -- a call on the state that is lent too little of it comes between, refused with 8 and with all as it was
 abbrev pub tooLittle : Role → Role
-tooLittle (feeds call other) = between (λ p b. refused 8 (justWords other)) (justWords other)
+tooLittle (feeds call other) = between (λ p b. refused 8 other) other
 tooLittle (between tells other) = between (λ p b. refused 8 other) other
 tooLittle resets = resets
 
@@ -124,7 +135,7 @@ IsList memory [] = Unit {0}
 IsList memory (i ∷ is) =
     ((file : List ℕ) → i .asked ≡ reset file → (onMemory memory i) .answer ≢ Done 0) × IsList ((onMemory memory i) .memory .state) is
 
--- what the book is fed: who makes each offer and its flow, each set's flows and each step's length of delivery memory
+-- what the book is fed: who makes each offer and its flow, each set's flows and each step's lengths of delivery memory and reason list
 abbrev pub fedAs : Role → List Call
 fedAs (feeds call other) = call ∷ []
 fedAs (between tells other) = []
@@ -146,10 +157,20 @@ outcomes memory (i ∷ is) = beside (onMemory memory i) ∷ outcomes ((onMemory 
 abbrev pub bookMemory : Plan → Book → (words : List ℕ) → List ℕ
 bookMemory p b words = stateWords (bookState p b) ++ drop (planSize p) words
 
--- what the book has for a call. A fed one: its answer, and the words delivered in front of the other memory, whose rest is as lent.
--- A reset: what it answers on the book's words
+-- the other memory of a fed call: the words delivered in front of its words, those of the reasons in front of its list; the rest is as
+-- lent
+abbrev pub filled : Fed → Beside → Beside
+filled now other =
+    record {
+      words = over (wordsOf (now .delivered)) (other .words);
+      reasons = over (now .reasons) (other .reasons);
+      records = other .records;
+    }
+
+-- what the book has for a call. A fed one: its answer, and what it fills the other memory with. A reset: what it answers on the book's
+-- words
 abbrev pub due : Plan → Book → (words : List ℕ) → Item → Role → Outcome Answer Beside
-due p b words i (feeds call other) = outcome ((feed p b call) .reply) (justWords (over (wordsOf ((feed p b call) .delivered)) other))
+due p b words i (feeds call other) = outcome ((feed p b call) .reply) (filled (feed p b call) other)
 due p b words i (between tells other) = tells p b
 due p b words i resets = beside (onMemory (bookMemory p b words) i)
 

@@ -74,9 +74,13 @@ slice-write-reasons c =
 loop-again : tie.Need-loop-again Inv-loop μ-loop
 loop-again c =
     let now = c .before .before in
-    let old = (turn c) .loop .inv in
-    (omega arith, (now .enter .kept .1 .1 .0 ∙ old .1 .0,
-    (now .enter .ensures .1, told-more _ _ _ _ _ (c .number .ensures ∙ ap numberOf (now .enter .ensures .0)) (old .1 .1 .1))))
+    let old = (turn c) .loop .inv in (
+      omega arith,
+      (
+        now .enter .kept .1 .1 .0 ∙ old .1 .0,
+        (now .enter .ensures .1, told-more _ _ _ _ _ (c .number .ensures ∙ ap numberOf (now .enter .ensures .0)) (old .1 .1 .1)),
+      ),
+    )
 
 returns : tie.Need-returns Inv-loop μ-loop
 returns c =
