@@ -68,10 +68,10 @@ pub fn enter(state: &[u32], f: u32, entrants: &mut [u32]) -> Reason
     ensures { λ _. ⌜ Entrants (stateOf (now (state .entry))) (f + 1) (now (entrants .exit)) ⌝ }
 {
     let t = cycle::tally_at(state, f);
+    let bucket = t.bucket;
     if t.waiting < 1 {
         return Reason::NothingWaiting;
     }
-    let bucket = t.bucket;
     if bucket.tokens < 1 {
         return Reason::NoToken;
     }

@@ -155,6 +155,6 @@ pub fn step_reasons(state: &mut [u32], delivery: &mut [u32], reasons: &mut [u32]
         };
     }
     reasons::tell(state, reasons);
-    let exits = advance(state, delivery);
-    Answer::Done(exits)
+    let left = advance(state, delivery);
+    Answer::Done(left)
 }

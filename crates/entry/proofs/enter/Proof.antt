@@ -26,23 +26,23 @@ abbrev start : tie.After-tally-at → tie.Start
 start c = c .before .before .before
 
 abbrev waited : tie.Else1 → tie.After-tally-at
-waited c = c .before .before
+waited c = c .before .before .before
 
 abbrev had : tie.Else2 → tie.Else1
-had c = c .before .before .before
+had c = c .before .before
 
 abbrev begin : tie.Else2 → tie.Start
 begin c = start (waited (had c))
 
 returns : tie.Need-returns
 returns c =
-    let at = c .before .before in
+    let at = c .before .before .before in
     let p = start at .pre in
     turn-nothing _ (p .0 .facts) _ (p .0 .below) _ (at .tally-at .ensures) _ (p .1) (c .if1 .taken)
 
 returns-2 : tie.Need-returns-2
 returns-2 c =
-    let passed = c .before .before .before in
+    let passed = c .before .before in
     let at = waited passed in
     let p = start at .pre in
     turn-no-token _ (p .0 .facts) _ (p .0 .below) _ (at .tally-at .ensures) _ (p .1) (passed .if1 .left) (c .if2 .taken)
