@@ -138,7 +138,8 @@ module _ (p : Plan) where
 
     pub kept-feed : (c : Call) → Kept p (feed p b c .book)
     kept-feed c =
-        feed-cases p b (λ (fed : Fed). Kept p (fed .book)) (λ n place. k) (λ who f room. kept-offer b k f room) kept-set (λ reasons early. kept-step b k early) c
+        feed-cases p b (λ (fed : Fed). Kept p (fed .book)) (λ n place. k) (λ who f room. kept-offer b k f room) kept-set
+        (λ reasons early. kept-step b k early) c
 
     -- an offer lets nothing leave, nor does a set of them
     offered-leaves : (r : Delivery → Bool) (now : Book) (f : ℕ) → count (gone r) (offered now f .lines) ≡ count (gone r) (now .lines)

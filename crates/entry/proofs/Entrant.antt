@@ -2,7 +2,7 @@
 use mathlib.Core.Bool.{Bool, true, false, cond, _&&_, and-false, false≢true}
 use mathlib.Core.List.{List}
 use mathlib.Core.Logic.{_⊎_, inl, inr}
-use mathlib.Core.Option.{Option, none, some, Option·some-ne-none}
+use mathlib.Core.Option.{Option, none, some}
 use mathlib.Core.Path.{_≡_, refl, sym, ap, _∙_}
 use Prim.Native.Nat.{ℕ, zero, suc, _+_, _*_, _≤_, _<_}
 use native.Mathlib.Decide.{ℕ-discrete}
@@ -34,14 +34,9 @@ names f (suc g) =
       | no e ↦ rw (ne-eqb g f e, ne-eqb (suc g) (f + 1) (λ h. e (omega arith)))
     ]
 
-pub no-one : (word : ℕ) → word ≡ 0 → entrantIn word ≡ none
+no-one : (word : ℕ) → word ≡ 0 → entrantIn word ≡ none
 unfolding entrantIn
 no-one word e = rw e
-
-pub only-zero : (word : ℕ) → entrantIn word ≡ none → word ≡ 0
-unfolding entrantIn
-only-zero zero e = refl
-only-zero (suc f) e = absurd (Option·some-ne-none f e)
 
 some-one : (f : ℕ) → entrantIn (f + 1) ≡ some f
 unfolding entrantIn

@@ -1,5 +1,4 @@
 -- The laws of entry.
 pub mod Entrant
 pub mod Clients
-pub mod Turn
 pub mod Tally

@@ -10,17 +10,22 @@ use lib.Seq.{sets}
 use Rattle.laws.specs.Count.{one}
 use Rattle.laws.specs.Grid.{cellIndex}
 use Rattle.flow.specs.declared.Flow.{Flow}
+use Rattle.flow.specs.Offsets.{portOf}
 use Rattle.flow.specs.Limits.{lastClock}
 use Rattle.bucket.specs.Regulator.{afterCycle}
-use Rattle.router.specs.Rule.{entrantBelow}
+use Rattle.router.specs.Rule.{isOpen, entrantBelow}
 use Rattle.state.specs.declared.Tally.{Tally}
 use Rattle.state.specs.Layout.{flowPlace, numberSize}
 use Rattle.state.specs.State.{State}
 use Rattle.state.specs.Words.{tallyWords}
 use Rattle.state.specs.Facts.{StateFacts}
 use Rattle.state.specs.Read.{countIn, clockIn, stateOf}
-use Rattle.cycle.specs.Seen.{view}
+use Rattle.cycle.specs.Seen.{seen, view}
 use Rattle.cycle.specs.Step.{nextTally}
+
+-- the port of a flow at its client's router is open
+unfoldable pub portOpen : State → Flow → Bool
+portOpen s f = isOpen (seen s (f .xs) (f .ys)) (f .xs) (portOf (s .plan .sx) f)
 
 -- who enters at a client, in the walk's words: the number + 1 of the flow; 0 if there is none
 unfoldable pub entrantIn : (word : ℕ) → Option ℕ

@@ -1,7 +1,6 @@
 // Who enters, and the flows' next tallies: two walks over the flows. Rests on cycle.
 use flow::Flow;
 use flow::Port;
-use router::Reason;
 use state::Tally;
 ghost use mathlib.Core.Path.{_≡_};
 ghost use mathlib.Core.Bool.{true};
@@ -10,31 +9,49 @@ ghost use lib.ListN.{length, getD};
 ghost use Rattle.laws.specs.Grid.{cellIndex};
 ghost use Rattle.laws.specs.Turns.{turns};
 ghost use Rattle.flow.specs.Plan.{mostSize, mostFlows};
+ghost use Rattle.flow.specs.Ranges.{FlowOk};
 ghost use Rattle.flow.specs.Limits.{lastClock};
-ghost use Rattle.router.specs.Rule.{isOpen, isFlow};
-ghost use Rattle.router.specs.Reasons.{reason};
-ghost use Rattle.state.specs.Read.{countIn, stateOf};
-ghost use Rattle.state.specs.Facts.{StateFacts, StateFlow, StateRouter};
-ghost use Rattle.cycle.specs.Seen.{seen, view};
-ghost use Rattle.entry.specs.Entrants.{tallyAfter, entrantIn, Entrants, AllEntered, tallied};
+ghost use Rattle.router.specs.Rule.{ready, isFlow};
+ghost use Rattle.state.specs.Read.{sxIn, syIn, countIn, stateOf};
+ghost use Rattle.state.specs.Facts.{StateFacts, StateFlow};
+ghost use Rattle.cycle.specs.Seen.{view};
+ghost use Rattle.entry.specs.Entrants.{portOpen, tallyAfter, entrantIn, Entrants, AllEntered, tallied};
 
-// A port of the router in column x and row y is open.
-fn port_open(state: &[u32], x: u32, y: u32, port: Port) -> bool
-    requires { ⌜ StateRouter (now state) x y ⌝ }
-    ensures { λ r. ⌜ r ≡ isOpen (seen (stateOf (now (state .entry))) x y) x port ⌝ }
+// The flow's port at its client's router is open.
+pub fn port_open(state: &[u32], flow: Flow) -> bool
+    requires { ⌜ StateFacts (now state) ⌝ }
+    requires { ⌜ FlowOk (sxIn (now state)) (syIn (now state)) flow ⌝ }
+    ensures { λ r. ⌜ r ≡ portOpen (stateOf (now (state .entry))) flow ⌝ }
 {
-    let cell = cycle::cell_at(state, x, y);
+    let cell = cycle::cell_at(state, flow.xs, flow.ys);
     let west = cell.west;
     let north = cell.north;
+    let port = flow.port(state[state::SX]);
     match port {
         Port::East => cycle::is_empty(west),
         Port::South => {
             if !cycle::is_empty(north) {
                 return false;
             }
-            !cycle::turns_south(state, x, west)
+            !cycle::turns_south(state, flow.xs, west)
         }
     }
+}
+
+// Flow f has a waiting packet, a token and an open port.
+fn ready(state: &[u32], f: u32) -> bool
+    requires { ⌜ StateFlow (now state) f ⌝ }
+    ensures { λ r. ⌜ r ≡ ready ((stateOf (now (state .entry))) .plan) (view (stateOf (now (state .entry)))) f ⌝ }
+{
+    let t = cycle::tally_at(state, f);
+    if t.waiting < 1 {
+        return false;
+    }
+    let bucket = t.bucket;
+    if bucket.tokens < 1 {
+        return false;
+    }
+    port_open(state, cycle::flow_at(state, f))
 }
 
 // A flow's tally after a cycle.
@@ -60,35 +77,21 @@ fn tally_after(flow: Flow, t: Tally, enters: bool) -> Tally
     }
 }
 
-// Flow f's turn, with the entrants of the flows below it: whether it enters or why not. If it does, it is its client's entrant.
-pub fn enter(state: &[u32], f: u32, entrants: &mut [u32]) -> Reason
+// Flow f's turn: if it enters, with the entrants of the flows below it, it is its client's entrant.
+pub fn enter(state: &[u32], f: u32, entrants: &mut [u32])
     requires { ⌜ StateFlow (now state) f ⌝ }
     requires { ⌜ Entrants (stateOf (now state)) f (now entrants) ⌝ }
-    ensures { λ r. ⌜ r ≡ reason ((stateOf (now (state .entry))) .plan) (view (stateOf (now (state .entry)))) f ⌝ }
     ensures { λ _. ⌜ Entrants (stateOf (now (state .entry))) (f + 1) (now (entrants .exit)) ⌝ }
 {
-    let t = cycle::tally_at(state, f);
-    let bucket = t.bucket;
-    if t.waiting < 1 {
-        return Reason::NothingWaiting;
-    }
-    if bucket.tokens < 1 {
-        return Reason::NoToken;
+    if !ready(state, f) {
+        return;
     }
     let flow = cycle::flow_at(state, f);
-    let port = flow.port(state[state::SX]);
-    if !port_open(state, flow.xs, flow.ys, port) {
-        match port {
-            Port::East => return Reason::WestHeld,
-            Port::South => return Reason::SouthTaken,
-        }
-    }
     let client = state::router_index(state[state::SX], flow.xs, flow.ys);
     if entrants[client] != 0 {
-        return Reason::LowerEntered;
+        return;
     }
     entrants[client] = f + 1;
-    Reason::Entered
 }
 
 // The entrants of all clients.
@@ -104,7 +107,7 @@ pub fn find_entrants(state: &[u32], entrants: &mut [u32])
 }
 
 // Flow f is its client's entrant.
-fn entered(entrants: &[u32], sx: u32, flow: Flow, f: u32) -> bool
+pub fn entered(entrants: &[u32], sx: u32, flow: Flow, f: u32) -> bool
     requires { ⌜ (sx ≤ mostSize) × ((flow .xs < sx) × (flow .ys < mostSize)) ⌝ }
     requires { ⌜ (cellIndex sx (flow .xs) (flow .ys) < length (now entrants)) × (f < mostFlows) ⌝ }
     ensures { λ r. ⌜ r ≡ isFlow f (entrantIn (getD (now (entrants .entry)) (cellIndex sx (flow .xs) (flow .ys)) 0)) ⌝ }

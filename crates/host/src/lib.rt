@@ -119,7 +119,8 @@ pub extern "C" fn hrt_step_reasons(
     delivery: &mut [u32],
     reasons: &mut [u32],
 ) -> u64
-    ensures { λ r. ⌜ outcome r (telling (lent (now (state .exit)) (now (delivery .exit))) (now (reasons .exit))) ≡ inWords (stepReasonsOn (now (state .entry)) (now (delivery .entry)) (now (reasons .entry))) ⌝ }
+    ensures { λ r. ⌜ outcome r (telling (lent (now (state .exit)) (now (delivery .exit))) (now (reasons .exit)))
+        ≡ inWords (stepReasonsOn (now (state .entry)) (now (delivery .entry)) (now (reasons .entry))) ⌝ }
 {
     answer_word(step::step_reasons(state, delivery, reasons))
 }

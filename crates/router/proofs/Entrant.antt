@@ -2,14 +2,14 @@
 -- flows enter. Rests on specs/Rule.
 use mathlib.Core.Bool.{Bool, true, false, _&&_, false≢true}
 use mathlib.Core.Logic.{_⊎_, inl, inr}
-use mathlib.Core.Option.{Option, none, some, Option·some-ne-none}
+use mathlib.Core.Option.{Option, none, some}
 use mathlib.Core.Path.{_≡_, refl, sym, ap, subst, _∙_}
-use Prim.Native.Nat.{ℕ, _≤_, _<_}
+use Prim.Native.Nat.{ℕ, _+_, _≤_, _<_}
 use native.Mathlib.Decide.{ℕ-discrete, decLt}
 use native.Mathlib.Omega.{arith}
-use borrow.Author.Tests.{eq-eqb, eqb-true}
+use borrow.Author.Tests.{eq-eqb, ne-eqb, eqb-true}
 use lib.ListN.{length}
-use Rattle.laws.proofs.Cases.{never, and-true, eqb-both, both-eqb}
+use Rattle.laws.proofs.Cases.{and-true, eqb-both, both-eqb}
 use Rattle.laws.proofs.Bounded.{First, nowhere, first-at, finds, first-same}
 use Rattle.flow.specs.Offsets.{portOf, sameClient}
 use Rattle.flow.specs.Plan.{Plan, flowAt}
@@ -105,30 +105,27 @@ module _ (p : Plan) (v : View) where
             ]
           ]
 
-  -- at its turn in the order of the flows a ready flow enters if its client has no entrant yet, and else it doesn't
-  module _ (f : ℕ) where
-    abbrev waiting-there : ℕ → Bool
-    waiting-there g = isClient p ((flowAt p f) .xs) ((flowAt p f) .ys) g && ready p v g
+  -- whether a flow enters is known at its turn in the order of the flows
+  pub enters-turn : (f : ℕ) → f < length (p .flows) → isFlow f (entrantBelow p v ((flowAt p f) .xs) ((flowAt p f) .ys) (f + 1)) ≡ enters p v f
+  unfolding enters
+  enters-turn f in-plan = alike (finds readyThere (f + 1)) (finds readyThere (length (p .flows)))
+    where
+      readyThere : ℕ → Bool
+      readyThere g = isClient p ((flowAt p f) .xs) ((flowAt p f) .ys) g && ready p v g
 
-    abbrev before : Option ℕ
-    before = entrantBelow p v ((flowAt p f) .xs) ((flowAt p f) .ys) f
-
-    pub first-enters : f < length (p .flows) → ready p v f ≡ true → before ≡ none → enters p v f ≡ true
-    first-enters in-plan r e = pick (some-enters f in-plan r) (finds waiting-there f) e
-      where
-        pick : {o : Option ℕ}
-            → (enters p v f ≡ true) ⊎ ((g : ℕ) × (g < f) × (sameClient (flowAt p f) (flowAt p g) ≡ true) × (enters p v g ≡ true))
-            → First waiting-there f o → o ≡ none → enters p v f ≡ true
-        pick (inl now) first e = now
-        pick (inr (g, l, same, other)) (nowhere low) e = absurd (false≢true (sym (low g l) ∙ rw (same, entering g other .is-ready)))
-        pick (inr h) (first-at g l t low) e = absurd (Option·some-ne-none g e)
-
-    pub later-waits : (before ≡ none → ⊥) → enters p v f ≡ false
-    later-waits some′ = never (enters p v f) (λ now. pick now (finds waiting-there f) some′)
-      where
-        pick : {o : Option ℕ} → enters p v f ≡ true → First waiting-there f o → (o ≡ none → ⊥) → ⊥
-        pick now (nowhere low) some′ = some′ refl
-        pick now (first-at g l t low) some′ = false≢true (sym (entering f now .lowest g l) ∙ t)
+      alike : {early late : Option ℕ} → First readyThere (f + 1) early → First readyThere (length (p .flows)) late → isFlow f early ≡ isFlow f late
+      alike (nowhere low) (nowhere none′) = refl
+      alike (nowhere low) (first-at h l t none′) =
+          sym (ne-eqb h f (λ e. false≢true (sym (low f (omega arith)) ∙ subst (λ g. readyThere g ≡ true) e t)))
+      alike (first-at g l t low) (nowhere none′) = absurd (false≢true (sym (none′ g (omega arith)) ∙ t))
+      alike (first-at g l t low) (first-at h m u none′) =
+          elim (decLt g h) [
+            | yes below ↦ absurd (false≢true (sym (none′ g below) ∙ t))
+            | no above ↦ elim (decLt h g) [
+              | yes under ↦ absurd (false≢true (sym (low h under) ∙ u))
+              | no same ↦ let e : g ≡ h = omega arith in rw e
+            ]
+          ]
 
 -- two views that say the same of the plan's flows and of the torus's routers
 pub record Agree (p : Plan) (v w : View) : Type 0 where

@@ -1,17 +1,17 @@
 -- Laws of why a flow didn't enter: each test of rule 3 that fails gives its reason, the six are complete, and two views that agree
 -- give the same. Rests on specs/Reasons and the laws of who enters.
-use mathlib.Core.Bool.{Bool, true, false, cond, not, _&&_, _||_, and-false, false≢true}
-use mathlib.Core.Logic.{_⊎_, inl, inr}
+use mathlib.Core.Bool.{true, false, cond, not, _&&_, false≢true}
+use mathlib.Core.Logic.{inl, inr}
 use mathlib.Core.Option.{Option, none, some}
 use mathlib.Core.Path.{_≡_, refl, sym, ap, _∙_}
 use Prim.Native.Nat.{ℕ, zero, suc, _<_}
-use native.Mathlib.Decide.{ℕ-discrete, decLt}
+use native.Mathlib.Decide.{decLt}
 use native.Mathlib.Omega.{arith}
 use borrow.Author.Tests.{lt-ltb, eqb-true, not-false}
 use lib.Dec.{eqb}
 use lib.ListN.{length, getD}
 use Rattle.laws.proofs.Bounded.{getD-tabulate}
-use Rattle.laws.proofs.Cases.{test, never, and-true, both-eqb}
+use Rattle.laws.proofs.Cases.{test, never}
 use Rattle.laws.proofs.Grid.{tabulate-same}
 use Rattle.flow.specs.declared.Flow.{Flow}
 use Rattle.flow.specs.declared.Port.{Port}
@@ -21,10 +21,9 @@ use Rattle.flow.specs.Plan.{Plan, flowAt}
 use Rattle.flow.specs.Ranges.{PlanOk}
 use Rattle.router.specs.declared.Reason.{Reason}
 use Rattle.router.specs.declared.Reason.the-variants.{Entered, NothingWaiting, NoToken, WestHeld, SouthTaken, LowerEntered}
-use Rattle.router.specs.Rule.{Seen, noPacket, turnsSouth, isOpen, View, ready, isClient, entrantBelow, entrant, isFlow, enters}
+use Rattle.router.specs.Rule.{Seen, noPacket, turnsSouth, isOpen, View, entrant, isFlow, enters}
 use Rattle.router.specs.Reasons.{numberOf, southTaken, portFor, seenBy, isLower, applies, reason, reasonWords, IsFirst, EveryReason}
-use Rattle.router.proofs.Entrant.{Ready, ready-parts, parts-ready, Found, no-entrant, has-entrant, found, enters-at, entering-ready, some-enters}
-use Rattle.router.proofs.Entrant.{Agree, enters-same}
+use Rattle.router.proofs.Entrant.{Ready, parts-ready, enters-at, entering-ready, some-enters, Agree, enters-same}
 
 -- S is taken by a network packet where it isn't open
 south-taken : (s : Seen) (x y : ℕ) → southTaken s x y ≡ not (isOpen s x South)

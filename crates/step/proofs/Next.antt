@@ -5,7 +5,7 @@ use mathlib.Core.Path.{_≡_, _∙_}
 use Prim.Native.Nat.{ℕ, _+_, _*_, _≤_, _<_}
 use native.Mathlib.Omega.{arith}
 use borrow.Author.Tests.{lt-ltb}
-use lib.ListN.{length, set, take, drop}
+use lib.ListN.{length, set, take, drop, replicate, length-replicate}
 use lib.Seq.{sets, length-take-le}
 use Rattle.laws.specs.Grid.{cellIndex}
 use Rattle.laws.specs.Turns.{turns}
@@ -23,10 +23,17 @@ use Rattle.state.proofs.View.{counted}
 use Rattle.state.proofs.Holds.{HoldsState, hold-same, hold-over, clock-written, registers-written}
 use Rattle.cycle.specs.Step.{nextTally, nextCell, stepState}
 use Rattle.entry.specs.Entrants.{tallied}
+use Rattle.entry.proofs.Clients.{no-entrants}
 use Rattle.entry.proofs.Tally.{turned}
 use Rattle.routing.specs.Walk.{registersIn, pushedAll}
 use Rattle.routing.proofs.Push.{pushed-cell, length-pushed}
-use Rattle.step.specs.Next.{nextWords}
+use Rattle.step.specs.Next.{Stepping, Room, nextWords}
+
+-- room for n routers is enough for a torus with no more
+pub room-for : (w delivery : List ℕ) (n : ℕ) → Stepping w delivery → sxIn w * syIn w ≤ n
+    → Room w (replicate n 0) (replicate (routerSize * n) 0) delivery
+room-for w delivery n s few =
+    record { stepping = s; registers-fit = rw length-replicate (omega arith); no-entrants = no-entrants w n few }
 
 module _ (w : List ℕ) (facts : StateFacts w) where
   abbrev s : State

@@ -14,7 +14,7 @@ ghost use Rattle.entry.specs.Entrants.{Entrants, AllEntered};
 ghost use Rattle.routing.specs.Walk.{registersIn, pushedAll};
 ghost use Rattle.step.specs.Next.{Stepping, Judged, Room, nextWords};
 ghost use Rattle.cycle.specs.Step.{stepState, deliveries, stepOn};
-ghost use Rattle.cycle.specs.Reasons.{telling, stepReasonsOn};
+ghost use Rattle.cycle.specs.Reasons.{telling, wordsOn, stepReasonsOn};
 
 // Copies n words to a place.
 fn copy(from: &[u32], to: &mut [u32], at: usize, n: usize)
@@ -102,6 +102,76 @@ fn advance(state: &mut [u32], delivery: &mut [u32]) -> u32
     advance_in(state, &mut entrants, &mut registers, delivery)
 }
 
+// One cycle, and before it each flow's reason, with room of its own for the entrants.
+fn advance_telling_in(
+    state: &mut [u32],
+    told: &mut [u32],
+    entrants: &mut [u32],
+    registers: &mut [u32],
+    delivery: &mut [u32],
+    reasons: &mut [u32],
+) -> u32
+    requires { ⌜ Room (now state) (now entrants) (now registers) (now delivery) ⌝ }
+    requires { ⌜ Entrants (stateOf (now state)) 0 (now told) ⌝ }
+    requires { ⌜ countIn (now state) ≤ length (now reasons) ⌝ }
+    ensures { λ _. ⌜ now (state .exit) ≡ over (stateWords (stepState (stateOf (now (state .entry))))) (now (state .entry)) ⌝ }
+    ensures { λ r. ⌜ r ≡ length (deliveries (stateOf (now (state .entry)))) ⌝ }
+    ensures { λ _. ⌜ now (delivery .exit) ≡ over (wordsOf (deliveries (stateOf (now (state .entry))))) (now (delivery .entry)) ⌝ }
+    ensures { λ _. ⌜ now (reasons .exit) ≡ over (wordsOn (stateOf (now (state .entry)))) (now (reasons .entry)) ⌝ }
+{
+    reasons::tell(state, told, reasons);
+    advance_in(state, entrants, registers, delivery)
+}
+
+// One cycle that also tells each flow's reason. A small torus gets little room.
+fn advance_telling(state: &mut [u32], delivery: &mut [u32], reasons: &mut [u32]) -> u32
+    requires { ⌜ Stepping (now state) (now delivery) ⌝ }
+    requires { ⌜ countIn (now state) ≤ length (now reasons) ⌝ }
+    ensures { λ _. ⌜ now (state .exit) ≡ over (stateWords (stepState (stateOf (now (state .entry))))) (now (state .entry)) ⌝ }
+    ensures { λ r. ⌜ r ≡ length (deliveries (stateOf (now (state .entry)))) ⌝ }
+    ensures { λ _. ⌜ now (delivery .exit) ≡ over (wordsOf (deliveries (stateOf (now (state .entry))))) (now (delivery .entry)) ⌝ }
+    ensures { λ _. ⌜ now (reasons .exit) ≡ over (wordsOn (stateOf (now (state .entry)))) (now (reasons .entry)) ⌝ }
+{
+    let cells = state[state::SX] * state[state::SY];
+    if cells <= 16 {
+        let mut told = [0u32; 16];
+        let mut entrants = [0u32; 16];
+        let mut registers = [0u32; state::ROUTER_SIZE * 16];
+        return advance_telling_in(
+            state,
+            &mut told,
+            &mut entrants,
+            &mut registers,
+            delivery,
+            reasons,
+        );
+    }
+    if cells <= 64 {
+        let mut told = [0u32; 64];
+        let mut entrants = [0u32; 64];
+        let mut registers = [0u32; state::ROUTER_SIZE * 64];
+        return advance_telling_in(
+            state,
+            &mut told,
+            &mut entrants,
+            &mut registers,
+            delivery,
+            reasons,
+        );
+    }
+    let mut told = [0u32; state::MOST_ROUTERS];
+    let mut entrants = [0u32; state::MOST_ROUTERS];
+    let mut registers = [0u32; state::ROUTER_SIZE * state::MOST_ROUTERS];
+    advance_telling_in(
+        state,
+        &mut told,
+        &mut entrants,
+        &mut registers,
+        delivery,
+        reasons,
+    )
+}
+
 // The refusal of a step after the state's own, or 0.
 fn step_number(state: &[u32], delivery: &[u32]) -> u32
     requires { ⌜ StateFacts (now state) ⌝ }
@@ -142,7 +212,8 @@ pub fn step(state: &mut [u32], delivery: &mut [u32]) -> Answer
 
 // One cycle that also tells why each flow didn't enter, judged before it.
 pub fn step_reasons(state: &mut [u32], delivery: &mut [u32], reasons: &mut [u32]) -> Answer
-    ensures { λ r. ⌜ outcome r (telling (lent (now (state .exit)) (now (delivery .exit))) (now (reasons .exit))) ≡ stepReasonsOn (now (state .entry)) (now (delivery .entry)) (now (reasons .entry)) ⌝ }
+    ensures { λ r. ⌜ outcome r (telling (lent (now (state .exit)) (now (delivery .exit))) (now (reasons .exit)))
+        ≡ stepReasonsOn (now (state .entry)) (now (delivery .entry)) (now (reasons .entry)) ⌝ }
 {
     let number = refusal(state, delivery);
     if number != 0 {
@@ -154,7 +225,6 @@ pub fn step_reasons(state: &mut [u32], delivery: &mut [u32], reasons: &mut [u32]
             place: 0,
         };
     }
-    reasons::tell(state, reasons);
-    let left = advance(state, delivery);
-    Answer::Done(left)
+    let exits = advance_telling(state, delivery, reasons);
+    Answer::Done(exits)
 }

@@ -26,7 +26,7 @@ enter-requires c κs =
 loop-again : tie.Need-loop-again Inv-loop μ-loop
 loop-again c =
     let turn = c .before .before .enter in
-    (omega arith, (turn .kept .1 .1 .0 ∙ c .before .before .before .before .before .loop .inv .1 .0, turn .ensures .1))
+    (omega arith, (turn .kept .1 .1 .0 ∙ c .before .before .before .before .before .loop .inv .1 .0, turn .ensures))
 
 returns : tie.Need-returns Inv-loop μ-loop
 returns c =

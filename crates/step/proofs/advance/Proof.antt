@@ -2,8 +2,8 @@
 use borrow.Author.Needs.{needs}
 use native.Mathlib.Omega.{arith}
 use Rattle.state.specs.Inner.{mostRouters}
-use Rattle.entry.proofs.Clients.{no-entrants}
 use Rattle.cycle.proofs.Facts.{cells-most}
+use Rattle.step.proofs.Next.{room-for}
 use Rattle.step.proofs.advance.Statement.{statement}
 use Rattle.step.proofs.advance.Tie as tie
 
@@ -20,22 +20,19 @@ advance-in-requires : tie.Need-advance-in-requires
 advance-in-requires c κs =
     let test = c .before .before .before .before in
     let p = test .before .before .before .before .before .pre in
-    let small = test .if1 .taken in
-    record { stepping = p; registers-fit = omega arith; no-entrants = no-entrants _ 16 small }
+    room-for _ _ 16 p (test .if1 .taken)
 
 advance-in-requires-2 : tie.Need-advance-in-requires-2
 advance-in-requires-2 c κs =
     let test = c .before .before .before .before in
     let p = test .before .before .before .before .before .before .pre in
-    let small = test .if2 .taken in
-    record { stepping = p; registers-fit = omega arith; no-entrants = no-entrants _ 64 small }
+    room-for _ _ 64 p (test .if2 .taken)
 
 advance-in-requires-3 : tie.Need-advance-in-requires-3
 advance-in-requires-3 c κs =
     let test = c .before .before .before .before in
     let p = test .before .before .before .before .before .before .pre in
-    let most = cells-most _ (p .facts) in
-    record { stepping = p; registers-fit = omega arith; no-entrants = no-entrants _ mostRouters most }
+    room-for _ _ mostRouters p (cells-most _ (p .facts))
 
 pub advance-spec : {M : Type 1} → statement M
 advance-spec =

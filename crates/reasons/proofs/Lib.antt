@@ -1,0 +1,2 @@
+-- The laws of a flow's turn.
+pub mod Turn

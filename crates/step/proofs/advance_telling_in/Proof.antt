@@ -1,0 +1,18 @@
+-- `advance_telling_in`: the reasons, then the cycle.
+use borrow.Author.Needs.{needs}
+use Rattle.step.proofs.advance_telling_in.Statement.{statement}
+use Rattle.step.proofs.advance_telling_in.Tie as tie
+
+returns : tie.Need-returns
+returns c =
+    let state = c .before .before .before .before .before .before in
+    let ran = state .before .before in
+    let lent = ran .before .before .before .before in
+    let told = lent .before .before .before .before .before in
+    let exits = ran .advance-in .ensures in
+    (exits .0, (exits .1 .0, (exits .1 .1, told .tell .ensures)))
+
+pub advance-telling-in-spec : {M : Type 1} → statement M
+advance-telling-in-spec =
+    tie.close (tie.spec (λ c κs. search needs) (λ c κs. search needs) (λ c. search needs) (λ c. search needs) (λ c. search needs)
+    (λ c. search needs) (λ c. search needs) (λ c. search needs) returns)
