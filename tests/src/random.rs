@@ -3,7 +3,7 @@
 use crate::book::{Book, Bucket, Place, Side};
 use crate::offers::MOST_TRIAL;
 use crate::plan::{Flow, MOST_PERIOD, Plan};
-use crate::state::{PER_REGISTER, places, register_at, waiting_at};
+use crate::state::{PER_REGISTER, age, places, register_at, waiting_at};
 
 pub struct Random(u64);
 
@@ -185,25 +185,14 @@ fn packet(random: &mut Random, book: &Book, place: Place) -> Option<[i64; 4]> {
         let column = place.router.column;
         let r = (place.router.row - flow.ys).rem_euclid(plan.sy);
         let in_rows = 1 <= r && r <= dy;
-        let (d, e) = match place.side {
-            Side::N if column == flow.xd && in_rows => {
-                let d = random.from(0, r - 1);
-                (d, dx + r + d * plan.sx)
-            }
-            Side::W if r == 0 => {
-                let j = (column - flow.xs).rem_euclid(plan.sx);
-                if j < 1 || dx < j {
-                    continue;
-                }
-                (0, j)
-            }
-            Side::W if in_rows => {
-                let d = random.from(1, r);
-                let j = (column - flow.xd - 1).rem_euclid(plan.sx) + 1;
-                (d, dx + r + (d - 1) * plan.sx + j)
-            }
+        let on_its_way = (1..=dx).contains(&(column - flow.xs).rem_euclid(plan.sx));
+        let d = match place.side {
+            Side::N if column == flow.xd && in_rows => random.from(0, r - 1),
+            Side::W if r == 0 && on_its_way => 0,
+            Side::W if in_rows => random.from(1, r),
             _ => continue,
         };
+        let e = age(plan, f, place, d);
         if e <= book.clock && book.entered[f] > 0 {
             return Some([f as i64 + 1, random.from(1, book.entered[f]), book.clock - e, d]);
         }

@@ -54,6 +54,17 @@ pub fn places(plan: &Plan) -> Vec<Place> {
     places
 }
 
+/// How many cycles ago a flow's packet with so many deflections entered that is in this place.
+pub fn age(plan: &Plan, f: usize, place: Place, d: i64) -> i64 {
+    let (flow, dx, Router { row, column }) = (plan.flows[f], plan.dx(f), place.router);
+    let r = (row - flow.ys).rem_euclid(plan.sy);
+    match place.side {
+        Side::N => dx + r + d * plan.sx,
+        Side::W if r == 0 => (column - flow.xs).rem_euclid(plan.sx),
+        Side::W => dx + r + (d - 1) * plan.sx + (column - flow.xd - 1).rem_euclid(plan.sx) + 1,
+    }
+}
+
 /// Do the words form a state? 8 under eight words; 9 for the first eight words; 8 for the whole
 /// size; 9 for the rest. If they do: a book with a line for each packet that they hold.
 /// Words past the size don't matter. Offer and q of an entered line aren't in the words.

@@ -2,12 +2,12 @@
 
 use super::recent::{self, Kept};
 use super::{Tally, Twin, engine, plans, sets};
-use crate::book::{Book, Side};
+use crate::book::Book;
 use crate::host::Engine;
 use crate::offers::MOST_WAITING;
 use crate::plan::{Flow, MOST_BYTES, MOST_PERIOD, Plan};
 use crate::random::{self, Random};
-use crate::state::{HEADER, PER_FLOW, PER_REGISTER, places, register_at, waiting_at, words};
+use crate::state::{HEADER, PER_FLOW, PER_REGISTER, age, places, register_at, waiting_at, words};
 
 /// Every boundary of reset, every word of a small state set to each telling value, and a full queue.
 pub fn boundaries(host: &impl Engine, tally: &mut Tally, random: &mut Random) {
@@ -235,16 +235,9 @@ fn packet_nearly_in_place(random: &mut Random, plan: &Plan, state: &mut [u32]) {
     let places = places(plan);
     let place = places[random.index(places.len())];
     let f = random.index(plan.flows.len());
-    let (flow, dx) = (plan.flows[f], plan.dx(f));
-    let r = (place.router.row - flow.ys).rem_euclid(plan.sy);
-    let from_source = (place.router.column - flow.xs).rem_euclid(plan.sx);
-    let from_turn = (place.router.column - flow.xd - 1).rem_euclid(plan.sx) + 1;
+    let r = (place.router.row - plan.flows[f].ys).rem_euclid(plan.sy);
     let d = random.from(0, r + 1);
-    let e = match place.side {
-        Side::N => dx + r + d * plan.sx,
-        Side::W if r == 0 => from_source,
-        Side::W => dx + r + (d - 1) * plan.sx + from_turn,
-    };
+    let e = age(plan, f, place, d);
     let entered = state[HEADER + PER_FLOW * f + 8];
     let serial = random.pick(&[0, 1, entered, entered, entered, entered.wrapping_add(1)]);
     let entry = state[3].wrapping_sub(e as u32);
