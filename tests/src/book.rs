@@ -206,6 +206,13 @@ impl Book {
         Router { row: self.plan.flows[flow].ys, column: self.plan.flows[flow].xs }
     }
 
+    /// For each flow, whether its port is open.
+    pub fn open_ports(&self) -> Vec<bool> {
+        let old = self.lines_by_place();
+        let is_open = |flow| self.port_open(&old, self.client(flow), self.plan.port(flow));
+        (0..self.plan.flows.len()).map(is_open).collect()
+    }
+
     fn port_open(&self, old: &[Option<usize>], router: Router, port: Port) -> bool {
         let empty = |side| old[self.place_number(Place { router, side })].is_none();
         match port {

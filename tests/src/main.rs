@@ -40,7 +40,10 @@ fn main() {
             0 => "accepted".to_string(),
             _ => format!("refused {number}"),
         };
-        println!("{call:11} {answer:10} {count:9}");
+        println!("{call:12} {answer:10} {count:9}");
+    }
+    for (reason, count) in tally.reasons.iter().enumerate().filter(|(_, count)| **count > 0) {
+        println!("{:12} reason {reason:3} {count:9}", "step_reasons");
     }
     let (calls, memory) = (tally.calls(), tally.words);
     println!("{part}: {calls} answers and {memory} words or bytes compared, no difference");

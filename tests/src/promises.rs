@@ -1,10 +1,10 @@
-//! What 01 promises of the book after every list, U4 of a set and U6 of the trial generator's offer,
-//! asserted on its own lines.
+//! What 01 promises of the book after every list, U4 of a set, U6 of the trial generator's offer and U7
+//! of a step with reasons, asserted on its own lines.
 
 use crate::book::{Book, Delivery, Line};
 use crate::calls::Answer;
 use crate::offers::MOST_TRIAL;
-use crate::plan::{Refusal, refuse};
+use crate::plan::{Port, Refusal, refuse};
 use crate::window::window;
 
 /// The windows of the flows whose entry promise is watched (None: not watched, or no window).
@@ -59,6 +59,29 @@ pub fn check_trial(before: &Book, flow: u32, answer: Answer, after: &Book) {
     let expected = if waiting >= MOST_TRIAL { refuse(18, 0) } else { of_sonar.offer(flow) };
     assert_eq!(answer, expected, "{waiting} wait in flow {flow}");
     assert!(after == &of_sonar, "the generator's packet of flow {flow}, and the sonar's");
+}
+
+/// U7 on an accepted step that told these reasons: 0 just where a flow's entered count rose; else 1 or 2
+/// where the flow had no packet or no token, 3 or 4 where by 01's rule 3 its port wasn't open, and 5 in
+/// what is left, where a lower-numbered flow of its client has entered.
+pub fn check_reasons(before: &Book, reasons: &[u32], after: &Book) {
+    let entered = |flow: usize| after.entered[flow] > before.entered[flow];
+    let expected = before.open_ports().into_iter().enumerate().map(|(flow, is_open)| {
+        let client = before.client(flow);
+        match before.plan.port(flow) {
+            _ if entered(flow) => 0,
+            _ if before.waiting[flow].is_empty() => 1,
+            _ if before.buckets[flow].tokens == 0 => 2,
+            Port::East if !is_open => 3,
+            Port::South if !is_open => 4,
+            _ => {
+                let mut lower = (0..flow).filter(|&lower| before.client(lower) == client);
+                assert!(lower.any(entered), "nothing bars flow {flow}: {reasons:?}");
+                5
+            }
+        }
+    });
+    assert_eq!(expected.collect::<Vec<_>>(), reasons, "clock {}", before.clock);
 }
 
 fn check_line(book: &Book, windows: &Windows, line: &Line) {

@@ -1,5 +1,6 @@
 //! The engine's calls one at a time, on any memory: answer and memory as 01 and 02 state them.
 
+use super::steps::Lent;
 use super::{Call, Tally, Twin};
 use crate::calls::{self, Answer};
 use crate::host::Engine;
@@ -12,6 +13,7 @@ pub fn all_came_up(tally: &Tally) {
     tally.must_have_come_up("offer_trial", &[8, 9, 12, 18]);
     tally.must_have_come_up("offer_set", &[8, 9, 12, 13]);
     tally.must_have_come_up("step", &[8, 9, 10, 11]);
+    tally.must_have_come_up("step_reasons", &[8, 9, 10, 11, 19]);
     tally.must_have_come_up("recent", &[8, 9, 16, 17, 12]);
     tally.must_have_come_up("write", &[8, 9, 1, 15]);
 }
@@ -78,24 +80,22 @@ pub fn offer_set(
     expected.is_ok()
 }
 
-/// A step that is lent so many words of noise for its deliveries. Gives these and the count of exits,
-/// if it is accepted.
+/// A step, plain or with reasons, that is lent this. Gives it back with the count of exits, if the step
+/// is accepted.
 pub fn step(
     host: &impl Engine,
     tally: &mut Tally,
-    random: &mut Random,
     state: &mut Twin<u32>,
-    room: usize,
-) -> Option<(Twin<u32>, u64)> {
+    mut lent: Lent,
+) -> Option<(Lent, u64)> {
     let before = state.expected().to_vec();
-    let mut delivery = Twin::noise_words(random, room);
-    let expected = calls::step(state.expected(), delivery.expected());
-    let got = host.step(state.got(), delivery.got());
-    let call = Call { name: "step", with: &(room, before) };
+    let expected = lent.step(state.expected());
+    let got = lent.step_by(host, state.got());
+    let call = Call { name: lent.name(), with: &(lent.lengths(), &before) };
     tally.answer(call, expected, got);
     tally.memory(call, state);
-    tally.memory(call, &delivery);
-    expected.ok().map(|exits| (delivery, exits))
+    lent.compare(tally, call, expected.map_or(0, |_| before[2] as usize));
+    expected.ok().map(|exits| (lent, exits))
 }
 
 /// Writing to a target of so many bytes of noise. Gives the target.

@@ -1,7 +1,8 @@
 //! Lists of calls after a reset: the book is fed each call's kind and arguments, and after each
-//! call its answer, its deliveries and the words of its state are compared, whole.
+//! call its answer, its deliveries and reasons and the words of its state are compared, whole.
 
 use super::recent::{self, Kept};
+use super::steps::{Lent, about};
 use super::{Call, Tally, Twin, engine, sets};
 use crate::book::{Book, Delivery};
 use crate::calls::Answer;
@@ -101,33 +102,31 @@ impl<'a, E: Engine> List<'a, E> {
         }
     }
 
-    /// A step that is lent so many words for its deliveries, which are then fed to the flows' records.
+    /// A step that is lent so many words for its deliveries. Half of the steps tell reasons.
     pub fn step(&mut self, tally: &mut Tally, random: &mut Random, room: usize) {
-        if let Some((delivery, exits)) = self.unkept_step(tally, random, room) {
-            self.kept.feed(self.host, tally, random, &mut self.state, delivery, exits);
+        let lent = Lent::either(random, room, self.book.plan.flows.len());
+        self.step_lent(tally, random, lent);
+    }
+
+    /// A step that is lent this. Its deliveries are then fed to the flows' records.
+    pub fn step_lent(&mut self, tally: &mut Tally, random: &mut Random, lent: Lent) {
+        if let Some((lent, exits)) = self.unkept_step(tally, lent) {
+            self.kept.feed(self.host, tally, random, &mut self.state, lent.delivery, exits);
         }
     }
 
-    /// A step alone. Gives its deliveries and the count of exits, if it is accepted.
-    fn unkept_step(
-        &mut self,
-        tally: &mut Tally,
-        random: &mut Random,
-        room: usize,
-    ) -> Option<(Twin<u32>, u64)> {
-        let mut delivery = Twin::noise_words(random, room);
-        let exits = self.book.step(room);
+    /// A step alone. Gives what it was lent and the count of exits, if it is accepted.
+    fn unkept_step(&mut self, tally: &mut Tally, mut lent: Lent) -> Option<(Lent, u64)> {
+        let exits = lent.step_book(&mut self.book);
         let expected = exits.as_ref().map(|exits| exits.len() as u64).map_err(|no| *no);
-        if let Ok(exits) = exits {
-            let words = exits.concat();
-            delivery.expected()[..words.len()].copy_from_slice(&words);
-            self.delivered.extend(exits);
-        }
-        let got = self.host.step(self.state.got(), delivery.got());
-        self.compare(tally, "step", &room, expected, got);
-        let with = &("deliveries", self.book.clock, &self.file);
-        tally.memory(Call { name: "step", with }, &delivery);
-        expected.ok().map(|exits| (delivery, exits))
+        self.delivered.extend(exits.unwrap_or_default());
+        let got = lent.step_by(self.host, self.state.got());
+        let name = lent.name();
+        self.compare(tally, name, &lent.lengths(), expected, got);
+        let with = &("deliveries and reasons", self.book.clock, &self.file);
+        let flows = expected.map_or(0, |_| self.book.plan.flows.len());
+        lent.compare(tally, Call { name, with }, flows);
+        expected.ok().map(|exits| (lent, exits))
     }
 
     fn compare(
@@ -138,8 +137,7 @@ impl<'a, E: Engine> List<'a, E> {
         expected: Answer,
         got: u64,
     ) -> bool {
-        let words = words(&self.book);
-        self.state.expected()[..words.len()].copy_from_slice(&words);
+        self.state.put(&words(&self.book));
         let call = Call { name, with: &(with, "clock", self.book.clock, "plan", &self.file) };
         tally.answer(call, expected, got);
         tally.memory(call, &self.state);
@@ -149,7 +147,7 @@ impl<'a, E: Engine> List<'a, E> {
 
     /// A call that isn't fed to the book: writing, a refused reset, or too little of the state lent.
     fn unfed(&mut self, tally: &mut Tally, random: &mut Random) {
-        let size = self.book.plan.state_words();
+        let (size, flows) = (self.book.plan.state_words(), self.book.plan.flows.len());
         let whole = self.state.lent.clone();
         if random.percent(60) {
             self.state.lent.end = whole.start + random.index(size);
@@ -158,23 +156,20 @@ impl<'a, E: Engine> List<'a, E> {
         match random.from(0, 6) {
             0 if short => drop(engine::offer(self.host, tally, &mut self.state, 0)),
             1 if short => drop(engine::offer_trial(self.host, tally, &mut self.state, 0)),
-            2 if short => drop(engine::step(self.host, tally, random, &mut self.state, 1280)),
+            2 if short => {
+                let lent = Lent::either(random, 1280, flows);
+                engine::step(self.host, tally, &mut self.state, lent);
+            }
             3 if short => drop(engine::reset(self.host, tally, &self.file, &mut self.state)),
             3 => {
                 let cut = &self.file[..random.index(self.file.len())];
                 engine::reset(self.host, tally, cut, &mut self.state);
             }
-            4 if short => {
-                let flows = self.book.plan.flows.len();
-                sets::on_words(self.host, tally, random, &mut self.state, flows)
-            }
-            5 => {
-                let flows = self.book.plan.flows.len();
-                recent::on_words(self.host, tally, random, &mut self.state, flows)
-            }
+            4 if short => sets::on_words(self.host, tally, random, &mut self.state, flows),
+            5 => recent::on_words(self.host, tally, random, &mut self.state, flows),
             _ => {
                 let notes = random.bytes(9);
-                let length = notes.len() + 8 * self.book.plan.flows.len() + 12;
+                let length = notes.len() + 8 * flows + 12;
                 let room = length + 3 - random.index(5);
                 engine::write(self.host, tally, random, &mut self.state, &notes, room);
             }
@@ -211,8 +206,13 @@ fn run(host: &impl Engine, tally: &mut Tally, random: &mut Random, plan: Plan, c
                 let short = random.index(room);
                 list.step(tally, random, short)
             }
-            3..7 => list.unfed(tally, random),
-            7..10 => {
+            3 => {
+                let (room, short) = (about(random, room), random.index(flows));
+                let lent = Lent::telling(random, room, short);
+                list.step_lent(tally, random, lent)
+            }
+            4..8 => list.unfed(tally, random),
+            8..11 => {
                 let flows = sets::list(random, flows);
                 list.offer_set(tally, random, &flows);
             }
@@ -319,7 +319,7 @@ pub fn slow_list(host: &impl Engine, tally: &mut Tally, random: &mut Random) {
     let mut list = List::new(host, tally, random, plan);
     for flows in offers {
         list.offer_by(tally, random, By::Offer, &flows);
-        list.unkept_step(tally, random, 10);
+        list.unkept_step(tally, Lent::either(random, 10, 2));
     }
     list.end();
 }

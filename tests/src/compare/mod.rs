@@ -9,9 +9,12 @@ pub mod lists;
 pub mod parts;
 pub mod periods;
 pub mod plans;
+pub mod reasons;
 pub mod recent;
+pub mod scenes;
 pub mod sets;
 pub mod states;
+pub mod steps;
 pub mod trial;
 
 use crate::calls::Answer;
@@ -34,12 +37,14 @@ pub struct Tally {
     pub seed: u64,
     /// For each call, how often it was refused with each number, or accepted (0).
     pub answers: BTreeMap<(&'static str, u64), u64>,
+    /// How often each reason of a flow, 0 to 5, was told.
+    pub reasons: [u64; 6],
     pub words: u64,
 }
 
 impl Tally {
     pub fn new(seed: u64) -> Tally {
-        Tally { seed, answers: BTreeMap::new(), words: 0 }
+        Tally { seed, answers: BTreeMap::new(), reasons: [0; 6], words: 0 }
     }
 
     pub fn calls(&self) -> u64 {
@@ -75,6 +80,11 @@ impl Tally {
         let (expected, got) = (&lent.expected[at], &lent.got[at]);
         let place = at as i64 - lent.lent.start as i64;
         self.differ(call, format!("place {place}: expected {expected:?}, got {got:?}"));
+    }
+
+    /// Counts reasons that were to be told.
+    pub fn tell(&mut self, reasons: &[u32]) {
+        reasons.iter().for_each(|&reason| self.reasons[reason as usize] += 1);
     }
 
     /// The call must have been accepted, and refused with each of these numbers.
@@ -117,6 +127,11 @@ impl<T: Clone> Twin<T> {
 }
 
 impl Twin<u32> {
+    /// Puts words over the front of what is expected.
+    pub fn put(&mut self, words: &[u32]) {
+        self.expected()[..words.len()].copy_from_slice(words);
+    }
+
     /// So many lent words of noise.
     pub fn noise_words(random: &mut Random, length: usize) -> Twin<u32> {
         Twin::new(random.words(length + 2 * GUARD))

@@ -1,7 +1,7 @@
 //! The parts of the comparison: fixed boundaries first, then rounds. Each round has a seed of its
 //! own, the last one's + 1, which gives the torus too, so that 256 rounds go through all sizes.
 
-use super::{Tally, bounds, engine, lists, periods, recent, sets, states, trial};
+use super::{Tally, bounds, engine, lists, periods, reasons, recent, sets, states, trial};
 use crate::host::{Bounds, Engine};
 use crate::random::{Random, plan};
 use std::time::{Duration, Instant};
@@ -26,23 +26,30 @@ pub fn bounds(host: &impl Bounds, seed: u64, extent: Extent) -> Tally {
     tally
 }
 
-/// Reset, offer, the trial generator's offer, sets of offers, step, recent flights and write.
+/// Reset, offer, the trial generator's offer, sets of offers, step, plain and with reasons, recent flights
+/// and write.
 pub fn engine(host: &impl Engine, seed: u64, extent: Extent) -> Tally {
     let mut tally = Tally::new(seed);
     let mut random = Random::new(seed);
+    reasons::boundaries(host, &mut tally, &mut random);
     periods::slow_states(host, &mut tally, &mut random);
     recent::boundaries(host, &mut tally, &mut random);
     trial::boundaries(host, &mut tally, &mut random);
     states::boundaries(host, &mut tally, &mut random);
     sets::boundaries(host, &mut tally, &mut random);
     periods::round_trips(host, &mut tally, &mut random);
+    let by_hand = tally.reasons;
     rounds("engine", &mut tally, extent, |tally, random, sx, sy| {
         lists::round(host, tally, random, sx, sy);
         states::round(host, tally, random, sx, sy);
         recent::round(host, tally, random, sx, sy);
         sets::round(host, tally, random, sx, sy);
         trial::round(host, tally, random, sx, sy);
+        reasons::round(host, tally, random, sx, sy);
     });
+    if let Extent::Gate = extent {
+        reasons::came_up_often([0, 1, 2, 3, 4, 5].map(|at| tally.reasons[at] - by_hand[at]));
+    }
     lists::worst_lists(host, &mut tally, &mut random);
     lists::slow_list(host, &mut tally, &mut random);
     lists::full_queue(host, &mut tally, &mut random);

@@ -1,6 +1,7 @@
 //! Periods of three bytes, by U5: plan files with each boundary of P, rivals that are slow, states of
 //! slow flows, and plan files that come back from their states byte for byte.
 
+use super::steps::Lent;
 use super::{Tally, Twin, engine, states};
 use crate::book::Book;
 use crate::host::Engine;
@@ -93,7 +94,7 @@ pub fn slow_states(host: &impl Engine, tally: &mut Tally, random: &mut Random) {
             states::every_call(host, tally, random, &state);
             let run = &mut Twin::words(random, &state, 1);
             for _ in 0..6 {
-                engine::step(host, tally, random, run, 10);
+                engine::step(host, tally, run, Lent::either(random, 10, 1));
             }
         }
     }

@@ -1,6 +1,7 @@
 //! States that no run reaches, damaged words, and lent lengths from 0.
 
 use super::recent::{self, Kept};
+use super::steps::{Lent, about};
 use super::{Tally, Twin, engine, plans, sets};
 use crate::book::Book;
 use crate::host::Engine;
@@ -95,8 +96,8 @@ fn telling_values(word: u32) -> Vec<u32> {
     [&near[..], &small, &large].concat()
 }
 
-/// The offers, step, recent flights and write, each on its own copy of the words, with some noise past
-/// them.
+/// The offers, both steps, recent flights and write, each on its own copy of the words, with some noise
+/// past them.
 pub fn every_call(host: &impl Engine, tally: &mut Tally, random: &mut Random, state: &[u32]) {
     let past = random.index(5);
     calls_with_past(host, tally, random, state, past);
@@ -119,14 +120,11 @@ fn calls_with_past(
     engine::offer_trial(host, tally, &mut Twin::words(random, state, past), flow);
     let filled = &mut Twin::words(random, state, past);
     sets::on_words(host, tally, random, filled, flows as usize);
-    let room = match random.from(0, 9) {
-        0 => random.index(5 * routers + 1),
-        1 => (5 * routers).saturating_sub(1),
-        2..5 => 5 * routers + random.index(9),
-        _ => 5 * routers,
-    };
-    let stepped = &mut Twin::words(random, state, past);
-    engine::step(host, tally, random, stepped, room);
+    let room = about(random, 5 * routers);
+    let told = about(random, flows as usize);
+    for lent in [Lent::plain(random, room), Lent::telling(random, room, told)] {
+        engine::step(host, tally, &mut Twin::words(random, state, past), lent);
+    }
     let fed = &mut Twin::words(random, state, past);
     recent::on_words(host, tally, random, fed, flows as usize);
     let written = &mut Twin::words(random, state, past);
@@ -166,9 +164,9 @@ pub fn round(host: &impl Engine, tally: &mut Tally, random: &mut Random, sx: i64
     let mut run = Twin::words(random, &state, 2);
     let mut kept = Kept::new(random, flows);
     for _ in 0..random.from(1, 12) {
-        let step = engine::step(host, tally, random, &mut run, 5 * plan.routers());
-        if let Some((delivery, exits)) = step {
-            kept.feed(host, tally, random, &mut run, delivery, exits);
+        let lent = Lent::either(random, 5 * plan.routers(), flows);
+        if let Some((lent, exits)) = engine::step(host, tally, &mut run, lent) {
+            kept.feed(host, tally, random, &mut run, lent.delivery, exits);
         }
     }
     for _ in 0..8 {
