@@ -5,12 +5,12 @@
 
 use second::book::Book;
 use second::compare::sets::list;
-use second::promises::{check, check_live, check_set, check_trial, windows};
+use second::promises::{check, check_live, check_reasons, check_set, check_trial, windows};
 use second::random::{Random, plan};
 use second::state::{judge, words};
 
 /// A list of so many calls: offers of the sonar and of the generator, some of them to a flow that isn't
-/// there, sets and steps.
+/// there, sets and steps, half of which tell reasons.
 fn run(random: &mut Random, mut book: Book, calls: usize) {
     let flows = book.plan.flows.len();
     let watched = random.index(flows);
@@ -30,6 +30,13 @@ fn run(random: &mut Random, mut book: Book, calls: usize) {
         } else if random.percent(offers) {
             let flow = random.index(flows + 1) as u32;
             assert_eq!(book.offer(flow).is_ok(), (flow as usize) < flows);
+        } else if random.percent(50) {
+            let (before, mut plain) = (book.clone(), book.clone());
+            let (exits, reasons) = book.step_reasons(room, flows).unwrap();
+            check_reasons(&before, &reasons, &book);
+            assert_eq!(plain.step(room).unwrap(), exits);
+            assert!(plain == book, "a step with reasons, and without");
+            delivered.extend(exits);
         } else {
             delivered.extend(book.step(room).unwrap());
         }
