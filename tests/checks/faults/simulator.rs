@@ -5,26 +5,48 @@ use second::host::{Engine, returned};
 use second::plan::refuse;
 use second::recent::Record;
 
-/// What a call gave, for a fault to change: its answer, the state, the deliveries and the reasons of a
-/// step and the target of writing.
+/// What a call gave, for a fault to change: its answer, the state, the deliveries of a step and
+/// the target of writing.
 pub struct Given<'a> {
     pub call: &'static str,
     pub answer: u64,
     pub state: &'a mut [u32],
     pub delivery: &'a mut [u32],
-    pub reasons: &'a mut [u32],
     pub target: &'a mut [u8],
 }
 
 impl<'a> Given<'a> {
     fn new(call: &'static str, answer: u64, state: &'a mut [u32]) -> Given<'a> {
-        Given { call, answer, state, delivery: &mut [], reasons: &mut [], target: &mut [] }
+        Given { call, answer, state, delivery: &mut [], target: &mut [] }
     }
 }
 
 /// What a refused call answers.
 pub fn refused(number: u64, place: usize) -> u64 {
     returned(refuse(number, place))
+}
+
+/// One call with what is lent to it, for a fault to answer in its place or to change what it leaves.
+pub trait OneCall: Sized {
+    /// The call without a fault.
+    fn right(&mut self) -> u64;
+
+    /// The number that the call without a fault answers, or 0. What is lent stays.
+    fn number(&self) -> u64;
+
+    /// The call, but for this answer in place of a number, where this holds.
+    fn but(mut self, number: u64, answer: u64, holds: impl Fn(&Self) -> bool) -> u64 {
+        if self.number() == number && holds(&self) { answer } else { self.right() }
+    }
+
+    /// The call, and this change where it answers a number.
+    fn then(mut self, number: u64, change: impl Fn(&mut Self)) -> u64 {
+        let answer = self.right();
+        if answer >> 32 == number {
+            change(&mut self);
+        }
+        answer
+    }
 }
 
 /// The calls, as the second simulator has them.
@@ -98,7 +120,7 @@ impl<C: Calls> Engine for Host<C> {
 
     fn step_reasons(&self, state: &mut [u32], delivery: &mut [u32], reasons: &mut [u32]) -> u64 {
         let answer = self.0.step_reasons(state, delivery, reasons);
-        self.0.give(Given { delivery, reasons, ..Given::new("step_reasons", answer, state) })
+        self.0.give(Given { delivery, ..Given::new("step_reasons", answer, state) })
     }
 
     fn recent(&self, state: &[u32], deliveries: &[u32], records: &mut [Record], last: u32) -> u64 {

@@ -1,7 +1,7 @@
 //! Faults of the trial generator's offer, each as a call with that fault in it, and the generator's limit
 //! in the sonar's offers.
 
-use super::simulator::{Calls, refused};
+use super::simulator::{Calls, OneCall, refused};
 use second::calls;
 use second::host::returned;
 use second::state::{HEADER, PER_FLOW, judge, waiting_at};
@@ -24,17 +24,17 @@ impl Calls for Faulty {
     }
 }
 
-impl Lent<'_> {
-    /// The call without a fault.
+impl OneCall for Lent<'_> {
     fn right(&mut self) -> u64 {
         returned(calls::offer_trial(self.state, self.flow))
     }
 
-    /// The number that the call without a fault answers, or 0.
     fn number(&self) -> u64 {
         returned(calls::offer_trial(&mut self.state.to_vec(), self.flow)) >> 32
     }
+}
 
+impl Lent<'_> {
     fn count(&self) -> u32 {
         self.state[2]
     }
@@ -78,20 +78,6 @@ impl Lent<'_> {
         }
         self.words()[9] += 1;
         0
-    }
-
-    /// The call, but for this answer in place of a number, where this holds.
-    fn but(mut self, number: u64, answer: u64, holds: impl Fn(&Lent) -> bool) -> u64 {
-        if self.number() == number && holds(&self) { answer } else { self.right() }
-    }
-
-    /// The call, and this change where it answers a number.
-    fn then(mut self, number: u64, change: impl Fn(&mut Lent)) -> u64 {
-        let answer = self.right();
-        if answer >> 32 == number {
-            change(&mut self);
-        }
-        answer
     }
 
     /// The call with another flow.
