@@ -31,7 +31,7 @@ fn of_the_engine(name: impl Into<String>, calls: impl Calls + 'static) -> Plante
 }
 
 fn in_the_engine() -> Vec<Planted<'static>> {
-    use faults::engine::{FAULTS, Faulty, JUDGED, JUDGES};
+    use faults::engine::{FAULTS, Faulty, JUDGED, JUDGES, STEPPED, STEPS};
     let mut planted = Vec::new();
     for (name, fault) in FAULTS {
         planted.push(of_the_engine(*name, Faulty::new(*fault)));
@@ -40,10 +40,12 @@ fn in_the_engine() -> Vec<Planted<'static>> {
         let calls = Faulty { misread: *misread, ..Faulty::new(|_| ()) };
         planted.push(of_the_engine(format!("a reset with {name}"), calls));
     }
-    for (name, fault) in JUDGED {
-        for calls in JUDGES.chunks(1) {
-            let name = format!("{} with {name}", calls[0]);
-            planted.push(of_the_engine(name, Faulty { calls, ..Faulty::new(*fault) }));
+    for (faults, each) in [(JUDGED, JUDGES), (STEPPED, STEPS)] {
+        for (name, fault) in faults {
+            for calls in each.chunks(1) {
+                let name = format!("{} with {name}", calls[0]);
+                planted.push(of_the_engine(name, Faulty { calls, ..Faulty::new(*fault) }));
+            }
         }
     }
     planted

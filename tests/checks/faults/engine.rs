@@ -1,4 +1,4 @@
-//! Faults of reset, offer, step and write, and of every call that judges the words of a state.
+//! Faults of reset, offer, write and both steps, and of every call that judges the words of a state.
 
 use super::records::Misread;
 use super::simulator::{Calls, Given};
@@ -12,10 +12,6 @@ impl Given<'_> {
         self.answer < 1 << 32
     }
 
-    fn stepped(&self) -> bool {
-        self.call == "step" && self.accepted()
-    }
-
     /// The buckets of a state's flows: P, σ, tokens and count.
     fn buckets(&mut self) -> impl Iterator<Item = &mut [u32]> {
         buckets(self.state)
@@ -27,7 +23,7 @@ impl Given<'_> {
 
     /// A token too early: where this holds of a bucket after a step.
     fn token_at(&mut self, is_over: fn(&[u32]) -> bool) {
-        if self.stepped() {
+        if self.accepted() {
             for bucket in self.buckets().filter(|bucket| is_over(bucket)) {
                 bucket[2] = bucket[1].min(bucket[2] + 1);
                 bucket[3] = 0;
@@ -100,23 +96,6 @@ impl Calls for Faulty {
 pub type Fault = fn(&mut Given);
 
 pub const FAULTS: &[(&str, Fault)] = &[
-    ("a step that stands still", |given| {
-        if given.stepped() {
-            given.state[3] -= 1;
-        }
-    }),
-    ("a count not found in the records", |given| given.answer += given.stepped() as u64),
-    ("a word past the exits", |given| {
-        let past = 5 * given.answer as usize;
-        if given.stepped() && past < given.delivery.len() {
-            given.delivery[past] ^= 1;
-        }
-    }),
-    ("deliveries one deflection short", |given| {
-        if given.stepped() && given.answer > 0 && given.delivery[4] > 0 {
-            given.delivery[4] -= 1;
-        }
-    }),
     ("a word past the state", |given| {
         if given.accepted() && given.call != "write" && given.state_words() < given.state.len() {
             given.state[given.state_words()] = 0;
@@ -124,11 +103,6 @@ pub const FAULTS: &[(&str, Fault)] = &[
     }),
     ("an offer too many", |given| {
         given.answer = if given.answer >> 32 == 13 { 0 } else { given.answer }
-    }),
-    ("a change in a refused step", |given| {
-        if given.call == "step" && given.answer >> 32 == 10 {
-            given.state[3] = 0;
-        }
     }),
     ("a reset that leaves the last word", |given| {
         if given.call == "reset" && given.accepted() {
@@ -140,23 +114,6 @@ pub const FAULTS: &[(&str, Fault)] = &[
     }),
     ("8 where 9 comes first", |given| {
         given.answer = if given.answer >> 32 == 9 { 8 << 32 } else { given.answer }
-    }),
-    ("a counter that rests in a full bucket", |given| {
-        if given.stepped() {
-            given.full_buckets().for_each(|bucket| bucket[3] = 0);
-        }
-    }),
-    ("a token that finds its bucket full, kept", |given| {
-        if given.stepped() {
-            let round = given.full_buckets().filter(|bucket| bucket[3] == 0);
-            round.for_each(|bucket| bucket[2] += 1);
-        }
-    }),
-    ("a count that doesn't return where a token is lost", |given| {
-        if given.stepped() {
-            let round = given.full_buckets().filter(|bucket| bucket[3] == 0);
-            round.for_each(|bucket| bucket[3] = bucket[0] - 1);
-        }
     }),
     ("9 for a full bucket with a count", |given| {
         if given.call == "offer"
@@ -176,8 +133,54 @@ pub const FAULTS: &[(&str, Fault)] = &[
     ("the top byte of P written for its middle one", |given| {
         given.rewrite(|record| record[5] = record[7])
     }),
+];
+
+/// The steps, plain and with reasons.
+pub const STEPS: &[&str] = &["step", "step_reasons"];
+
+/// Faults that each of them may have.
+pub const STEPPED: &[(&str, Fault)] = &[
+    ("a clock that stands still", |given| {
+        if given.accepted() {
+            given.state[3] -= 1;
+        }
+    }),
+    ("a count not found in the records", |given| given.answer += given.accepted() as u64),
+    ("a word past the exits", |given| {
+        let past = 5 * given.answer as usize;
+        if given.accepted() && past < given.delivery.len() {
+            given.delivery[past] ^= 1;
+        }
+    }),
+    ("deliveries one deflection short", |given| {
+        if given.accepted() && given.answer > 0 && given.delivery[4] > 0 {
+            given.delivery[4] -= 1;
+        }
+    }),
+    ("a change where 10 is due", |given| {
+        if given.answer >> 32 == 10 {
+            given.state[3] = 0;
+        }
+    }),
+    ("a counter that rests in a full bucket", |given| {
+        if given.accepted() {
+            given.full_buckets().for_each(|bucket| bucket[3] = 0);
+        }
+    }),
+    ("a token that finds its bucket full, kept", |given| {
+        if given.accepted() {
+            let round = given.full_buckets().filter(|bucket| bucket[3] == 0);
+            round.for_each(|bucket| bucket[2] += 1);
+        }
+    }),
+    ("a count that doesn't return where a token is lost", |given| {
+        if given.accepted() {
+            let round = given.full_buckets().filter(|bucket| bucket[3] == 0);
+            round.for_each(|bucket| bucket[3] = bucket[0] - 1);
+        }
+    }),
     ("a count of two bytes", |given| {
-        if given.stepped() {
+        if given.accepted() {
             given.buckets().for_each(|bucket| bucket[3] &= 0xFFFF);
         }
     }),
@@ -190,7 +193,8 @@ pub const FAULTS: &[(&str, Fault)] = &[
 ];
 
 /// The calls that judge the words of a state.
-pub const JUDGES: &[&str] = &["offer", "offer_trial", "offer_set", "step", "recent", "write"];
+pub const JUDGES: &[&str] =
+    &["offer", "offer_trial", "offer_set", "step", "step_reasons", "recent", "write"];
 
 /// Faults that each of them may have: a bucket judged as though it were another.
 pub const JUDGED: &[(&str, Fault)] = &[
