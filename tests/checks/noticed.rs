@@ -5,10 +5,12 @@ mod faults {
     pub mod bounds;
     pub mod engine;
     pub mod listing;
+    pub mod reasons;
     pub mod recent;
     pub mod records;
     pub mod sets;
     pub mod simulator;
+    pub mod telling;
     pub mod trial;
 }
 
@@ -71,6 +73,22 @@ fn in_trial_offers() -> Vec<Planted<'static>> {
         planted.push(of_the_engine(name("offers"), StoppedOffers(number)));
         planted.push(of_the_engine(name("sets"), StoppedSets(number)));
     }
+    planted
+}
+
+fn in_reasons() -> Vec<Planted<'static>> {
+    use faults::reasons::{Before, FAULTS, Faulty, Late, ORDERS};
+    use faults::telling::{self, PlainRefused};
+    let mut planted: Vec<_> =
+        FAULTS.iter().map(|(name, fault)| of_the_engine(*name, Faulty(*fault))).collect();
+    for (name, fault) in telling::FAULTS {
+        planted.push(of_the_engine(*name, telling::Faulty(*fault)));
+    }
+    for (told, right) in ORDERS {
+        planted.push(of_the_engine(format!("{told} before {right}"), Before { told, right }));
+    }
+    planted.push(of_the_engine("the reasons of the step before", Late::default()));
+    planted.push(of_the_engine("a plain step refused with 19", PlainRefused));
     planted
 }
 
@@ -139,6 +157,7 @@ fn faults_are_noticed() {
         in_recent_flights(),
         in_sets(),
         in_trial_offers(),
+        in_reasons(),
         in_the_bounds(),
         in_the_listing(),
     ];

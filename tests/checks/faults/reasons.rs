@@ -1,0 +1,352 @@
+//! Faults of the reasons that a step tells, each as what is told in place of the right one.
+
+use super::simulator::Calls;
+use second::book::{Book, Line, Router, Side};
+use second::calls;
+use second::host::returned;
+use second::plan::Port;
+use second::state::judge;
+use std::cell::RefCell;
+
+/// A cycle in which reasons are told: the books before and after it, the words that were lent for
+/// reasons, and what is right to tell there.
+pub struct Cycle {
+    before: Book,
+    after: Book,
+    lent: Vec<u32>,
+    right: Vec<u32>,
+}
+
+/// What is told to a flow in a cycle.
+pub type Fault = fn(&Cycle, usize) -> u32;
+
+/// The second simulator, but for what an accepted step tells.
+pub struct Faulty(pub Fault);
+
+impl Calls for Faulty {
+    fn step_reasons(&self, state: &mut [u32], delivery: &mut [u32], reasons: &mut [u32]) -> u64 {
+        telling(state, delivery, reasons, |cycle, flow| self.0(cycle, flow))
+    }
+}
+
+/// The second simulator, but for a reason that is told before another where both apply.
+pub struct Before {
+    pub told: u32,
+    pub right: u32,
+}
+
+impl Calls for Before {
+    fn step_reasons(&self, state: &mut [u32], delivery: &mut [u32], reasons: &mut [u32]) -> u64 {
+        telling(state, delivery, reasons, |cycle, flow| {
+            let both = cycle.right[flow] == self.right && cycle.applies(flow, self.told);
+            if both { self.told } else { cycle.right[flow] }
+        })
+    }
+}
+
+/// All pairs of reasons that may apply to one flow: the second is right.
+pub const ORDERS: [(u32, u32); 9] =
+    [(2, 1), (3, 1), (4, 1), (5, 1), (3, 2), (4, 2), (5, 2), (5, 3), (5, 4)];
+
+/// The second simulator, but for the reasons of the step before, if it told as many.
+#[derive(Default)]
+pub struct Late(RefCell<Vec<u32>>);
+
+impl Calls for Late {
+    fn step_reasons(&self, state: &mut [u32], delivery: &mut [u32], reasons: &mut [u32]) -> u64 {
+        telling(state, delivery, reasons, |cycle, flow| {
+            let mut last = self.0.borrow_mut();
+            if last.len() != cycle.right.len() {
+                *last = cycle.right.clone();
+            }
+            std::mem::replace(&mut last[flow], cycle.right[flow])
+        })
+    }
+}
+
+/// The right call, but for what an accepted step tells to each flow.
+fn telling(
+    state: &mut [u32],
+    delivery: &mut [u32],
+    reasons: &mut [u32],
+    word: impl Fn(&Cycle, usize) -> u32,
+) -> u64 {
+    let (words, lent) = (state.to_vec(), reasons.to_vec());
+    let answer = returned(calls::step_reasons(state, delivery, reasons));
+    if answer < 1 << 32 {
+        let cycle = Cycle::new(&words, lent);
+        for flow in 0..cycle.right.len() {
+            reasons[flow] = word(&cycle, flow);
+        }
+    }
+    answer
+}
+
+impl Cycle {
+    fn new(words: &[u32], lent: Vec<u32>) -> Cycle {
+        let before = judge(words).unwrap();
+        let mut after = before.clone();
+        let (_, right) = after.step_reasons(usize::MAX, lent.len()).unwrap();
+        Cycle { before, after, lent, right }
+    }
+
+    fn port(&self, flow: usize) -> Port {
+        self.before.plan.port(flow)
+    }
+
+    fn is_east(&self, flow: usize) -> bool {
+        self.port(flow) == Port::East
+    }
+
+    fn waiting(&self, flow: usize) -> usize {
+        self.before.waiting[flow].len()
+    }
+
+    fn tokens(&self, flow: usize) -> i64 {
+        self.before.buckets[flow].tokens
+    }
+
+    /// A token comes in this cycle.
+    fn refills(&self, flow: usize) -> bool {
+        self.before.buckets[flow].count + 1 == self.before.plan.flows[flow].period
+    }
+
+    /// The packet in a register of the flow's router.
+    fn held(&self, flow: usize, side: Side) -> Option<&Line> {
+        let is_there = |line: &&Line| {
+            line.place
+                .is_some_and(|place| place.router == self.before.client(flow) && place.side == side)
+        };
+        self.before.lines.iter().find(is_there)
+    }
+
+    fn west(&self, flow: usize) -> bool {
+        self.held(flow, Side::W).is_some()
+    }
+
+    fn north(&self, flow: usize) -> bool {
+        self.held(flow, Side::N).is_some()
+    }
+
+    /// W's packet turns S.
+    fn turns(&self, flow: usize) -> bool {
+        let column = self.before.client(flow).column;
+        self.held(flow, Side::W).is_some_and(|line| self.before.plan.flows[line.flow].xd == column)
+    }
+
+    /// The packet on this side is at its destination.
+    fn leaves(&self, flow: usize, side: Side) -> bool {
+        let client = self.before.client(flow);
+        self.held(flow, side).is_some_and(|line| {
+            let flow = &self.before.plan.flows[line.flow];
+            (flow.xd, flow.yd) == (client.column, client.row)
+        })
+    }
+
+    /// The packet that takes S leaves.
+    fn exits(&self, flow: usize) -> bool {
+        self.leaves(flow, if self.turns(flow) { Side::W } else { Side::N })
+    }
+
+    /// The flows of the flow's client.
+    fn of_client(&self, flow: usize) -> impl Iterator<Item = usize> {
+        let client = self.before.client(flow);
+        (0..self.right.len()).filter(move |&other| self.before.client(other) == client)
+    }
+
+    /// The flow of its client that entered.
+    fn entered(&self, flow: usize) -> Option<usize> {
+        self.of_client(flow).find(|&other| self.right[other] == 0)
+    }
+
+    /// A lower-numbered flow of another client, for which this holds of both clients, entered.
+    fn lower_elsewhere(&self, flow: usize, holds: fn(Router, Router) -> bool) -> bool {
+        let client = self.before.client(flow);
+        (0..flow).any(|lower| {
+            let other = self.before.client(lower);
+            other != client && holds(other, client) && self.right[lower] == 0
+        })
+    }
+
+    /// Does a reason apply to a flow, whichever others do?
+    fn applies(&self, flow: usize, reason: u32) -> bool {
+        match reason {
+            0 => self.right[flow] == 0,
+            1 => self.waiting(flow) == 0,
+            2 => self.tokens(flow) == 0,
+            3 => self.is_east(flow) && self.west(flow),
+            4 => !self.is_east(flow) && (self.turns(flow) || self.north(flow)),
+            _ => self.entered(flow).is_some_and(|lower| lower < flow),
+        }
+    }
+
+    /// This reason where the right one is among these and this holds.
+    fn but(&self, flow: usize, told: u32, right: &[u32], holds: bool) -> u32 {
+        if holds && right.contains(&self.right[flow]) { told } else { self.right[flow] }
+    }
+}
+
+pub const FAULTS: &[(&str, Fault)] = &[
+    ("reasons from 1", |cycle, flow| cycle.right[flow] + 1),
+    ("0 for every flow", |_, _| 0),
+    ("a bit for each reason that applies", |cycle, flow| {
+        (0..6).map(|reason| (cycle.applies(flow, reason) as u32) << reason).sum()
+    }),
+    ("the last that applies", |cycle, flow| {
+        (0..6).rev().find(|&reason| cycle.applies(flow, reason)).unwrap()
+    }),
+    ("the flow before's reason", |cycle, flow| cycle.right[flow.saturating_sub(1)]),
+    ("the next flow's reason", |cycle, flow| cycle.right[(flow + 1).min(cycle.right.len() - 1)]),
+    ("reasons from the last flow on", |cycle, flow| cycle.right[cycle.right.len() - 1 - flow]),
+    ("one reason for all flows of a client", |cycle, flow| {
+        cycle.right[cycle.of_client(flow).next().unwrap()]
+    }),
+    ("judged on the state after the step", |cycle, flow| {
+        let after = cycle.after.clone().step_reasons(usize::MAX, cycle.lent.len());
+        after.map_or(cycle.right[flow], |(_, told)| told[flow])
+    }),
+    ("1 for the last packet, which entered", |cycle, flow| {
+        cycle.but(flow, 1, &[0], cycle.waiting(flow) == 1)
+    }),
+    ("2 for the last token, which was spent", |cycle, flow| {
+        cycle.but(flow, 2, &[0], cycle.tokens(flow) == 1)
+    }),
+    ("2 for the last token, spent by the last but one packet", |cycle, flow| {
+        cycle.but(flow, 2, &[0], cycle.tokens(flow) == 1 && cycle.waiting(flow) == 2)
+    }),
+    ("5 for the flow that entered", |cycle, flow| cycle.but(flow, 5, &[0], true)),
+    ("4 for an entry by S", |cycle, flow| cycle.but(flow, 4, &[0], !cycle.is_east(flow))),
+    ("3 for an entry by E", |cycle, flow| cycle.but(flow, 3, &[0], cycle.is_east(flow))),
+    ("1 for an entry that leaves at once", |cycle, flow| {
+        let flow_of = &cycle.before.plan.flows[flow];
+        let own = (flow_of.xs, flow_of.ys) == (flow_of.xd, flow_of.yd);
+        cycle.but(flow, 1, &[0], own)
+    }),
+    ("0 for a flow that could enter", |cycle, flow| cycle.but(flow, 0, &[5], true)),
+    ("1 with one packet waiting", |cycle, flow| {
+        cycle.but(flow, 1, &[2, 3, 4, 5], cycle.waiting(flow) == 1)
+    }),
+    ("1 by the low byte of waiting", |cycle, flow| {
+        cycle.but(flow, 1, &[2, 3, 4, 5], cycle.waiting(flow) as u8 == 0)
+    }),
+    ("2 with one token left", |cycle, flow| {
+        cycle.but(flow, 2, &[3, 4, 5], cycle.tokens(flow) == 1)
+    }),
+    ("2 where the bucket isn't full", |cycle, flow| {
+        let full = cycle.before.plan.flows[flow].burst;
+        cycle.but(flow, 2, &[3, 4, 5], cycle.tokens(flow) < full)
+    }),
+    ("2 by the tokens after the cycle's count", |cycle, flow| {
+        let next = (3..6).find(|&reason| cycle.applies(flow, reason));
+        cycle.but(flow, next.unwrap_or(0), &[2], cycle.refills(flow))
+    }),
+    ("2 where the count is 0", |cycle, flow| {
+        cycle.but(flow, 2, &[3, 4, 5], cycle.before.buckets[flow].count == 0)
+    }),
+    ("3 for a port S", |cycle, flow| {
+        cycle.but(flow, 3, &[0, 4, 5], !cycle.is_east(flow) && cycle.west(flow))
+    }),
+    ("3 for a port S where W turns", |cycle, flow| {
+        cycle.but(flow, 3, &[4], !cycle.is_east(flow) && cycle.turns(flow))
+    }),
+    ("3 by N", |cycle, flow| cycle.but(flow, 3, &[0, 5], cycle.is_east(flow) && cycle.north(flow))),
+    ("3 by the entry of a lower flow", |cycle, flow| cycle.but(flow, 3, &[5], cycle.is_east(flow))),
+    ("3 not by a packet that turns", |cycle, flow| cycle.but(flow, 5, &[3], cycle.turns(flow))),
+    ("3 not by a packet that goes on", |cycle, flow| cycle.but(flow, 5, &[3], !cycle.turns(flow))),
+    ("0 for a port E where W turns", |cycle, flow| cycle.but(flow, 0, &[3], cycle.turns(flow))),
+    ("4 for a port E where W turns", |cycle, flow| cycle.but(flow, 4, &[3], cycle.turns(flow))),
+    ("4 for a port E where N goes S", |cycle, flow| {
+        cycle.but(flow, 4, &[0, 5], cycle.is_east(flow) && cycle.north(flow))
+    }),
+    ("3 and 4 for each other", |cycle, flow| match cycle.right[flow] {
+        3 => 4,
+        4 => 3,
+        right => right,
+    }),
+    ("3 and 4 by ΔY", |cycle, flow| {
+        let told = if cycle.before.plan.dy(flow) > 0 { 4 } else { 3 };
+        cycle.but(flow, told, &[3, 4], true)
+    }),
+    ("4 not by W", |cycle, flow| cycle.but(flow, 5, &[4], cycle.turns(flow) && !cycle.north(flow))),
+    ("4 not by N", |cycle, flow| cycle.but(flow, 5, &[4], !cycle.turns(flow))),
+    ("4 not where N is deflected", |cycle, flow| {
+        cycle.but(flow, 5, &[4], cycle.turns(flow) && cycle.north(flow))
+    }),
+    ("4 not by an exit", |cycle, flow| cycle.but(flow, 5, &[4], cycle.exits(flow))),
+    ("4 not by an exit from W", |cycle, flow| {
+        cycle.but(flow, 5, &[4], cycle.turns(flow) && cycle.exits(flow))
+    }),
+    ("4 not by an exit from N", |cycle, flow| {
+        cycle.but(flow, 5, &[4], !cycle.turns(flow) && cycle.exits(flow))
+    }),
+    ("0 for an exit from N", |cycle, flow| {
+        cycle.but(flow, 0, &[4], !cycle.turns(flow) && cycle.exits(flow))
+    }),
+    ("4 by an exit alone", |cycle, flow| cycle.but(flow, 5, &[4], !cycle.exits(flow))),
+    ("4 not for a flow to its own client", |cycle, flow| {
+        cycle.but(flow, 5, &[4], cycle.before.plan.dy(flow) == 0)
+    }),
+    ("4 by a W packet that doesn't turn", |cycle, flow| {
+        cycle.but(flow, 4, &[0, 5], !cycle.is_east(flow) && cycle.west(flow))
+    }),
+    ("4 by the entry of a lower flow", |cycle, flow| {
+        cycle.but(flow, 4, &[5], !cycle.is_east(flow))
+    }),
+    ("4 by the entry of a lower flow by S", |cycle, flow| {
+        let by_south = cycle.entered(flow).is_some_and(|lower| !cycle.is_east(lower));
+        cycle.but(flow, 4, &[5], by_south && !cycle.is_east(flow))
+    }),
+    ("5 by a flow of another client", |cycle, flow| {
+        cycle.but(flow, 5, &[1, 2, 3, 4], cycle.lower_elsewhere(flow, |_, _| true))
+    }),
+    ("5 by a flow of the same column", |cycle, flow| {
+        cycle.but(flow, 5, &[3, 4], cycle.lower_elsewhere(flow, |a, b| a.column == b.column))
+    }),
+    ("5 by a flow of the same row", |cycle, flow| {
+        cycle.but(flow, 5, &[3, 4], cycle.lower_elsewhere(flow, |a, b| a.row == b.row))
+    }),
+    ("5 by a higher-numbered flow", |cycle, flow| {
+        let higher = cycle.entered(flow).is_some_and(|other| other > flow);
+        cycle.but(flow, 5, &[1, 2, 3, 4], higher)
+    }),
+    ("5 by a lower flow that waits", |cycle, flow| {
+        let lower = cycle.of_client(flow).any(|lower| lower < flow && cycle.waiting(lower) > 0);
+        cycle.but(flow, 5, &[3, 4], lower)
+    }),
+    ("5 by a flow of the same port alone", |cycle, flow| {
+        let other_port = cycle.entered(flow).is_some_and(|l| cycle.port(l) != cycle.port(flow));
+        cycle.but(flow, 0, &[5], other_port)
+    }),
+    ("5 by a flow of the other port alone", |cycle, flow| {
+        let same_port = cycle.entered(flow).is_some_and(|l| cycle.port(l) == cycle.port(flow));
+        cycle.but(flow, 0, &[5], same_port)
+    }),
+    ("5 by the client's first flow alone", |cycle, flow| {
+        cycle.but(flow, 0, &[5], cycle.entered(flow) != cycle.of_client(flow).next())
+    }),
+    ("6 for a lower flow's entry", |cycle, flow| cycle.but(flow, 6, &[5], true)),
+    ("an entered flow's word left", |cycle, flow| cycle.but(flow, cycle.lent[flow], &[0], true)),
+    ("the word of a flow without packets left", |cycle, flow| {
+        cycle.but(flow, cycle.lent[flow], &[1], true)
+    }),
+    (
+        "the first flow's word left",
+        |cycle, flow| {
+            if flow == 0 { cycle.lent[0] } else { cycle.right[flow] }
+        },
+    ),
+    ("the last flow's word left", |cycle, flow| {
+        if flow + 1 == cycle.right.len() { cycle.lent[flow] } else { cycle.right[flow] }
+    }),
+    (
+        "flow 255's word left",
+        |cycle, flow| {
+            if flow == 255 { cycle.lent[flow] } else { cycle.right[flow] }
+        },
+    ),
+    ("the low byte of a word alone", |cycle, flow| cycle.lent[flow] & !0xFF | cycle.right[flow]),
+    ("the low two bytes of a word alone", |cycle, flow| {
+        cycle.lent[flow] & !0xFFFF | cycle.right[flow]
+    }),
+    ("added to the lent word", |cycle, flow| cycle.lent[flow].wrapping_add(cycle.right[flow])),
+];
