@@ -63,8 +63,8 @@ fn all_bounds(host: &impl Bounds, case: &Case) {
     }
 }
 
-/// Step, offer, the trial generator's offer, sets of offers, recent flights, reset and write: the calls
-/// that both sides have.
+/// Step, plain and with reasons, offer, the trial generator's offer, sets of offers, recent flights, reset
+/// and write: the calls that both sides have.
 pub fn engine(sides: Sides, first: &impl Engine, second: &impl Engine) {
     let taken = |case: &Case| sides.both(|| is_reset(first, case), || is_reset(second, case));
     sides.print_header();
@@ -73,8 +73,23 @@ pub fn engine(sides: Sides, first: &impl Engine, second: &impl Engine) {
         print_row(
             "step",
             &case,
-            sides.alternate(BATCH, steps(first, &case, &state), steps(second, &case, &state)),
+            sides.alternate(
+                BATCH,
+                steps(&case, &state, |words, delivery| first.step(words, delivery)),
+                steps(&case, &state, |words, delivery| second.step(words, delivery)),
+            ),
         );
+        if sides.both_have("hrt_step_reasons") {
+            print_row(
+                "reasons",
+                &case,
+                sides.alternate(
+                    BATCH,
+                    steps(&case, &state, telling(first, &case)),
+                    steps(&case, &state, telling(second, &case)),
+                ),
+            );
+        }
         print_row(
             "offer",
             &case,
@@ -140,16 +155,26 @@ fn is_reset(host: &impl Engine, case: &Case) -> bool {
     host.reset(&case.file, &mut vec![0; case.words()]) == 0
 }
 
-/// Steps in a row. Each turn starts from the same state.
-fn steps(host: &impl Engine, case: &Case, state: &[u32]) -> impl FnMut() {
+/// Steps in a row by this call. Each turn starts from the same state.
+fn steps(
+    case: &Case,
+    state: &[u32],
+    mut step: impl FnMut(&mut [u32], &mut [u32]) -> u64,
+) -> impl FnMut() {
     let mut memory = state.to_vec();
     let mut delivery = vec![0; 5 * case.routers()];
     move || {
         memory.copy_from_slice(state);
         for _ in 0..BATCH {
-            black_box(host.step(&mut memory, &mut delivery));
+            black_box(step(&mut memory, &mut delivery));
         }
     }
+}
+
+/// A step with reasons, which has words for every flow.
+fn telling(host: &impl Engine, case: &Case) -> impl FnMut(&mut [u32], &mut [u32]) -> u64 {
+    let mut reasons = vec![0; case.flows];
+    move |words, delivery| host.step_reasons(words, delivery, black_box(&mut reasons))
 }
 
 /// Single offers by this call, with every flow in turn.
