@@ -15,6 +15,7 @@ mod run;
 mod signals;
 mod tally;
 mod text;
+mod watch;
 mod words;
 
 use ending::Ending;

@@ -1,7 +1,7 @@
 //! What is kept of a flow in a run: its counts, its longest wait and flight, and its packets that
 //! haven't left.
 
-use hrt::{Delivery, Packet};
+use hrt::{Answer, Delivery, Packet, Plan, Refusal, State};
 use std::collections::VecDeque;
 
 /// A wait, and the bound that held for its packet where its flow has a window.
@@ -186,6 +186,20 @@ impl Tally {
     fn broken(&self, serial: u32, what: &str, found: u64, bound: u64) -> Broken {
         format!("packet {serial} of flow {}: {what} {found}, bound {bound}", self.flow)
     }
+}
+
+/// A tally for each flow, with the archive's bounds.
+pub fn tallies(plan: &Plan, state: &State) -> Result<Vec<Tally>, Refusal> {
+    let tally = |flow: usize| {
+        let window = match plan.window(flow as u32) {
+            Answer::Done(window) => Some(window),
+            Answer::Refused(Refusal { number: 14, .. }) => None,
+            Answer::Refused(refusal) => return Err(refusal),
+        };
+        let flight_bound = plan.flight(flow as u32).done()?;
+        Ok(Tally::new(flow as u32, state.flow(flow).period, window, flight_bound))
+    };
+    (0..state.flows()).map(tally).collect()
 }
 
 #[cfg(test)]

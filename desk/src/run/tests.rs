@@ -1,0 +1,137 @@
+//! Runs of one flow, and how each ends.
+
+use super::*;
+use crate::ending::Stop;
+use hrt::limits::LAST_CLOCK;
+use hrt::{Flow, Plan};
+
+/// A run of one flow, (0,0) to (3,3) on 4 by 4, from this clock on.
+fn run_from(clock: u32, offers: &'static str) -> Run<&'static [u8]> {
+    let flow = Flow { xs: 0, ys: 0, xd: 3, yd: 3, period: 10, burst: 1 };
+    let fresh = State::fresh(4, 4, &[flow]).unwrap();
+    let plan = Plan::read(fresh.write(b"").unwrap()).unwrap();
+    let tallies = tallies(&plan, &fresh).unwrap();
+    let mut words = fresh.words().to_vec();
+    words[3] = clock;
+    let state = State::of_words(words).unwrap();
+    Run::new(state, tallies, Offers::of("offers".to_string(), offers.as_bytes()))
+}
+
+#[test]
+fn the_clock_ends_with_refusal_11() {
+    let mut run = run_from(LAST_CLOCK - 3, "4294967292 0\n4294967294 0");
+    let end = run.go_to_end().unwrap();
+    assert_eq!(end, End::Refused(Refusal { number: 11, place: 0 }));
+    assert_eq!((run.state.clock(), run.offered, run.left, run.here), (LAST_CLOCK, 2, 0, 2));
+    let ending = run.last_checks(end).ending().unwrap_err();
+    assert_eq!(ending.stop, Stop::Failed);
+    assert_eq!(ending.messages, ["hrt: step: refused 11 0; ./hrt explain 11 says why"]);
+}
+
+#[test]
+fn the_last_cycle_is_run() {
+    let mut run = run_from(LAST_CLOCK - 7, "4294967288 0");
+    assert_eq!(run.go_to_end().unwrap(), End::Left);
+    assert_eq!((run.state.clock(), run.left), (LAST_CLOCK, 1));
+}
+
+#[test]
+fn a_broken_bound_is_loud() {
+    let mut run = run_from(0, "0 0");
+    run.tallies[0] = Tally::new(0, 10, Some(1), 7);
+    let end = run.go_to_end().unwrap();
+    assert_eq!(end, End::Broken("packet 1 of flow 0: flight 8, bound 7".to_string()));
+    let ending = end.ending().unwrap_err();
+    assert_eq!(ending.stop, Stop::Broken);
+    assert!(ending.messages[0].starts_with("hrt: A BOUND IS BROKEN: packet 1 of flow 0"));
+}
+
+#[test]
+fn a_refused_delivery_is_told() {
+    let mut run = run_from(0, "0 0");
+    run.records = Some(Records::new(0, 4));
+    let broken = "a step's own deliveries are refused 16 0".to_string();
+    assert_eq!(run.go_to_end().unwrap(), End::Broken(broken));
+}
+
+#[test]
+fn records_have_the_last_deliveries() {
+    let mut run = run_from(0, "0 0\n1 0\n2 0");
+    run.records = Some(Records::new(1, 2));
+    assert_eq!(run.records.as_ref().unwrap().cells(0), ["0", "-", "-"]);
+    assert_eq!(run.go_to_end().unwrap(), End::Left);
+    assert_eq!(run.records.unwrap().cells(0), ["2", "8", "0"]);
+}
+
+#[test]
+fn a_set_is_offered_in_its_cycle() {
+    let mut run = run_from(0, "0 0\n4 0 0 0\n5 0\n");
+    run.cycles = Some(5);
+    assert_eq!(run.go_to_end().unwrap(), End::Cycles);
+    assert_eq!((run.offered, run.left, run.here), (4, 0, 4));
+    run.cycles = None;
+    assert_eq!(run.go_to_end().unwrap(), End::Left);
+    assert_eq!((run.offered, run.left, run.here), (5, 5, 0));
+}
+
+#[test]
+fn a_trial_line_is_offered_in_its_cycle() {
+    let mut run = run_from(0, "0 trial 0\n4 0\n4 trial 0\n");
+    run.cycles = Some(4);
+    assert_eq!(run.go_to_end().unwrap(), End::Cycles);
+    assert_eq!((run.offered, run.left, run.here), (1, 0, 1));
+    run.cycles = None;
+    assert_eq!(run.go_to_end().unwrap(), End::Left);
+    assert_eq!((run.offered, run.left, run.here), (3, 3, 0));
+}
+
+#[test]
+fn a_refused_trial_line_is_counted() {
+    let mut run = run_from(0, "0 0\n0 trial 0\n0 0\n0 trial 0");
+    let mut words = run.state.words().to_vec();
+    words[17] = 254;
+    run.state = State::of_words(words).unwrap();
+    assert_eq!(run.offer_all().unwrap(), None);
+    assert_eq!((run.offered, run.here, run.tallies[0].refused), (4, 2, 2));
+    assert_eq!(run.state.waiting(0), 256);
+}
+
+#[test]
+fn a_faulty_trial_line_is_told_with_its_line() {
+    let mut run = run_from(0, "0 0\n4 trial 1\n");
+    let text = "flow 1 is not in the plan; its flows are 0 to 0 (refused 12 0)";
+    assert_eq!(run.go_to_end().unwrap(), End::Fault(format!("offers:2: {text}")));
+    assert_eq!((run.state.clock(), run.offered, run.here), (4, 1, 1));
+}
+
+#[test]
+fn a_faulty_set_is_told_with_its_line() {
+    let mut run = run_from(0, "0 0\n4 0 1 0\n");
+    let text = "flow 1, the line's 2nd flow, is not in the plan; its flows are 0 to 0";
+    let fault = format!("offers:2: {text} (refused 12 1)");
+    assert_eq!(run.go_to_end().unwrap(), End::Fault(fault));
+    assert_eq!((run.state.clock(), run.offered, run.here), (4, 1, 1));
+}
+
+#[test]
+fn a_missing_packet_is_told() {
+    let mut run = run_from(0, "0 0\n9 0");
+    run.cycles = Some(3);
+    assert_eq!(run.go_to_end().unwrap(), End::Cycles);
+    assert_eq!(watch(&run.state, &run.tallies, run.here), Ok(()));
+    run.here += 1;
+    let broken = "1 packets are waiting or in flight, not 2".to_string();
+    assert_eq!(run.last_checks(End::Cycles), End::Broken(broken));
+}
+
+#[test]
+fn a_packet_that_waits_past_its_bound_is_told() {
+    // Of two packets at once the second waits for its token, 10 cycles; the bound is made 3.
+    let mut run = run_from(0, "0 0\n0 0");
+    run.tallies[0] = Tally::new(0, 1, Some(2), 20);
+    run.cycles = Some(6);
+    let end = run.go_to_end().unwrap();
+    assert_eq!(end, End::Cycles);
+    let broken = "packet 2 of flow 0: wait 6, bound 3".to_string();
+    assert_eq!(run.last_checks(end), End::Broken(broken));
+}
