@@ -16,6 +16,7 @@ mod signals;
 mod tally;
 mod text;
 mod watch;
+mod why;
 mod words;
 
 use ending::Ending;

@@ -117,8 +117,12 @@ fn unknown_of(flows: &[u32], at: usize, tallies: &[Tally], refusal: &str) -> Wro
 }
 
 fn unknown(flow: &str, tallies: &[Tally], refusal: &str) -> Wrong {
-    let last = tallies.len() - 1;
-    Wrong::Unknown(format!("{flow} is not in the plan; its flows are 0 to {last}{refusal}"))
+    Wrong::Unknown(not_in_plan(flow, tallies.len()) + refusal)
+}
+
+/// What is said of a flow that a plan of so many flows doesn't have.
+pub fn not_in_plan(flow: &str, flows: usize) -> String {
+    format!("{flow} is not in the plan; its flows are 0 to {}", flows - 1)
 }
 
 fn broken(refusal: Refusal) -> Wrong {

@@ -53,13 +53,13 @@ impl Output {
         out.flush()
     }
 
-    /// The table, with three columns more if there are records, and how the run ended.
+    /// The table, with three columns more if there are records, and what stands below it.
     pub fn table(
         &mut self,
         tallies: &[Tally],
         state: &State,
         records: Option<&Records>,
-        end: &str,
+        below: &str,
     ) -> io::Result<()> {
         let mut rows = vec![HEADS.map(str::to_string).to_vec()];
         let flows = tallies.iter().enumerate();
@@ -79,7 +79,7 @@ impl Output {
             let cells = row.iter().zip(&widths).map(|(cell, &width)| format!("{cell:>width$}"));
             writeln!(self.bytes, "{}", cells.collect::<Vec<_>>().join("  "))?;
         }
-        writeln!(self.bytes, "{end}")?;
+        writeln!(self.bytes, "{below}")?;
         self.flush()
     }
 }

@@ -10,9 +10,10 @@ use crate::plan::cant_print;
 use crate::progress::Progress;
 use crate::recent::Records;
 use crate::signals::{self, Interruptible};
-use crate::tally::{tallies, Tally};
+use crate::tally::{tallies, Broken, Tally};
 use crate::watch::{watch, watch_end};
-use hrt::{Refusal, State};
+use crate::why::Why;
+use hrt::{Delivery, Refusal, State};
 use std::ffi::OsString;
 use std::io::{self, stdin, IsTerminal, Read};
 
@@ -24,6 +25,8 @@ pub struct Request {
     pub cycles: Option<u32>,
     /// How many of each flow's last deliveries are looked at, if any.
     pub recent: Option<u32>,
+    /// The flow whose reasons are counted, if any.
+    pub why: Option<u32>,
     /// The table alone, without the exits.
     pub summary: bool,
 }
@@ -35,17 +38,19 @@ pub fn run(request: Request) -> Result<(), Ending> {
         return Err(Ending::wrong(text.to_string()));
     }
     let plan = read_plan(&request.plan)?;
+    let state = plan.reset().map_err(refused_plan)?;
+    let why = request.why.map(|flow| Why::new(flow, &state)).transpose().map_err(Ending::wrong)?;
     let offers = input::open(&request.offers)?;
     if is_standard(&request.offers) && stdin().is_terminal() {
         eprintln!("offers are read from here: a line {LINE} each, and ctrl-D at the end");
     }
     signals::note_interrupts().map_err(|why| Ending::failed(format!("no pipe: {why}")))?;
-    let state = plan.reset().map_err(refused_plan)?;
     let tallies = tallies(&plan, &state).map_err(refused_plan)?;
     let exits = !request.summary;
     let mut run = Run {
         cycles: request.cycles,
         records: request.recent.map(|last| Records::new(state.flows(), last)),
+        why,
         output: Output::new(exits),
         progress: Progress::new(exits),
         ..Run::new(state, tallies, Offers::of(offers.name, Interruptible(offers.file)))
@@ -53,8 +58,9 @@ pub fn run(request: Request) -> Result<(), Ending> {
     let end = run.go_to_end().map_err(cant_print)?;
     run.progress.end();
     let end = run.last_checks(end);
-    let said = end.said(run.state.clock());
-    let table = run.output.table(&run.tallies, &run.state, run.records.as_ref(), &said);
+    let why = run.why.as_ref().map(Why::to_string).unwrap_or_default();
+    let below = why + &end.said(run.state.clock());
+    let table = run.output.table(&run.tallies, &run.state, run.records.as_ref(), &below);
     table.map_err(cant_print)?;
     end.ending()
 }
@@ -70,6 +76,7 @@ struct Run<R> {
     /// Room for the queues that a set finds.
     queues: Vec<u32>,
     records: Option<Records>,
+    why: Option<Why>,
     offers: Offers<R>,
     /// An offer that is read, and whose cycle hasn't come.
     next: Option<Offer>,
@@ -93,6 +100,7 @@ impl<R: Read> Run<R> {
             queues: vec![0; tallies.len()],
             tallies,
             records: None,
+            why: None,
             offers,
             next: None,
             ended: false,
@@ -193,24 +201,18 @@ impl<R: Read> Run<R> {
     /// One cycle, and what leaves in it.
     fn step(&mut self) -> io::Result<Option<End>> {
         let Run { state, tallies, output, .. } = self;
-        let exits = match state.step() {
-            Ok(exits) => exits,
-            Err(refusal @ Refusal { number: 11, .. }) => return Ok(Some(End::Refused(refusal))),
-            Err(refusal) => return Ok(Some(End::Broken(format!("a step is {refusal}")))),
+        let left = match &mut self.why {
+            None => leave(state.step(), tallies, output)?,
+            Some(why) => leave(why.step(state), tallies, output)?,
         };
-        let is_idle = exits.len() == 0;
-        for exit in exits {
-            match tallies[exit.flow as usize].leave(&exit) {
-                Ok(offer) => output.exit(offer, &exit)?,
-                Err(broken) => return Ok(Some(End::Broken(broken))),
-            }
-            self.left += 1;
-            self.here -= 1;
-        }
-        if let (Some(records), false) = (&mut self.records, is_idle) {
-            if let Err(broken) = records.feed(&self.state) {
-                return Ok(Some(End::Broken(broken)));
-            }
+        let left = match left {
+            Ok(left) => left,
+            Err(end) => return Ok(Some(end)),
+        };
+        self.left += left;
+        self.here -= left;
+        if let Err(broken) = self.keep(left == 0) {
+            return Ok(Some(End::Broken(broken)));
         }
         let clock = self.state.clock();
         self.progress.cycle(clock, self.offered, self.left);
@@ -221,14 +223,50 @@ impl<R: Read> Run<R> {
         Ok(None)
     }
 
+    /// What is kept of the last step: its reason, and its deliveries unless it was idle.
+    fn keep(&mut self, is_idle: bool) -> Result<(), Broken> {
+        if let Some(why) = &mut self.why {
+            why.count(&self.state)?;
+        }
+        match &mut self.records {
+            Some(records) if !is_idle => records.feed(&self.state),
+            _ => Ok(()),
+        }
+    }
+
     /// What is still to be looked at when the run has ended.
     fn last_checks(&mut self, end: End) -> End {
         if let End::Broken(_) = end {
             return end;
         }
-        let watched = watch_end(&self.state, &mut self.tallies, self.here);
-        watched.err().map_or(end, End::Broken)
+        let Run { state, tallies, why, .. } = self;
+        let watched = watch_end(state, tallies, self.here);
+        let counted = |()| why.as_ref().map_or(Ok(()), |why| why.check(state.clock()));
+        watched.and_then(counted).err().map_or(end, End::Broken)
     }
+}
+
+/// Enters what a step delivered in the tallies and prints it: how many left, or why the run ends.
+#[inline]
+fn leave(
+    exits: Result<impl Iterator<Item = Delivery>, Refusal>,
+    tallies: &mut [Tally],
+    output: &mut Output,
+) -> io::Result<Result<u64, End>> {
+    let exits = match exits {
+        Ok(exits) => exits,
+        Err(refusal @ Refusal { number: 11, .. }) => return Ok(Err(End::Refused(refusal))),
+        Err(refusal) => return Ok(Err(End::Broken(format!("a step is {refusal}")))),
+    };
+    let mut left = 0;
+    for exit in exits {
+        match tallies[exit.flow as usize].leave(&exit) {
+            Ok(offer) => output.exit(offer, &exit)?,
+            Err(broken) => return Ok(Err(End::Broken(broken))),
+        }
+        left += 1;
+    }
+    Ok(Ok(left))
 }
 
 #[cfg(test)]

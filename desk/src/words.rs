@@ -3,7 +3,7 @@
 use crate::bytes::number;
 use crate::ending::Ending;
 use crate::run::Request;
-use hrt::limits::{LAST_CLOCK, LEAST_RECENT, MOST_RECENT};
+use hrt::limits::{LAST_CLOCK, LEAST_RECENT, MOST_FLOWS, MOST_RECENT};
 use std::ffi::OsString;
 use std::os::unix::ffi::OsStrExt;
 
@@ -21,6 +21,7 @@ struct Words {
     files: Vec<OsString>,
     cycles: Option<u32>,
     recent: Option<u32>,
+    why: Option<u32>,
     summary: bool,
 }
 
@@ -30,14 +31,14 @@ pub fn read(mut words: impl Iterator<Item = OsString>) -> Result<Work, Ending> {
         Some(word @ ("plan" | "show" | "run")) => word,
         _ => return Err(Ending::wrong("./hrt --help says how to call it".to_string())),
     };
-    let Words { files, cycles, recent, summary } = apart(word, words)?;
+    let Words { files, cycles, recent, why, summary } = apart(word, words)?;
     let mut files = files.into_iter();
     let work = match (word, files.next(), files.next()) {
         ("plan", Some(text), plan) => Some(Work::Plan(text, plan)),
         ("show", Some(plan), None) => Some(Work::Show(plan)),
         ("run", Some(plan), offers) => {
             let offers = offers.unwrap_or_else(|| OsString::from("-"));
-            Some(Work::Run(Request { plan, offers, cycles, recent, summary }))
+            Some(Work::Run(Request { plan, offers, cycles, recent, why, summary }))
         }
         _ => None,
     };
@@ -89,7 +90,7 @@ fn apart(word: &str, mut words: impl Iterator<Item = OsString>) -> Result<Words,
 
 /// An option that takes a number, and the number if it stands in the same word.
 fn numbered(word: &[u8]) -> Option<(&'static str, Option<&[u8]>)> {
-    ["--cycles", "--recent"].into_iter().find_map(|option| {
+    ["--cycles", "--recent", "--why"].into_iter().find_map(|option| {
         match word.strip_prefix(option.as_bytes())? {
             [] => Some((option, None)),
             [b'=', value @ ..] => Some((option, Some(value))),
@@ -103,7 +104,8 @@ impl Words {
     fn number(&mut self, option: &str, value: &[u8]) -> Result<(), Ending> {
         let (taken, least, most) = match option {
             "--cycles" => (&mut self.cycles, 0, LAST_CLOCK),
-            _ => (&mut self.recent, LEAST_RECENT, MOST_RECENT),
+            "--recent" => (&mut self.recent, LEAST_RECENT, MOST_RECENT),
+            _ => (&mut self.why, 0, MOST_FLOWS as u32 - 1),
         };
         if taken.is_some() {
             return Err(wrong("run", "takes", &format!("{option} once")));

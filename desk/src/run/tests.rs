@@ -63,6 +63,41 @@ fn records_have_the_last_deliveries() {
     assert_eq!(run.records.unwrap().cells(0), ["2", "8", "0"]);
 }
 
+/// What a run's reasons are at its end, those of its one flow being counted.
+fn reasons(mut run: Run<&'static [u8]>) -> (End, [u64; 6]) {
+    run.why = Some(Why::new(0, &run.state).unwrap());
+    let end = run.go_to_end().unwrap();
+    (run.last_checks(end), run.why.unwrap().cycles)
+}
+
+#[test]
+fn reasons_are_counted_to_each_end() {
+    let offers = "0 0\n1 0\n2 0";
+    assert_eq!(reasons(run_from(0, offers)), (End::Left, [3, 6, 18, 0, 0, 0]));
+    for (cycles, counted) in [(0, [0; 6]), (1, [1, 0, 0, 0, 0, 0]), (5, [1, 0, 4, 0, 0, 0])] {
+        let run = Run { cycles: Some(cycles), ..run_from(0, offers) };
+        assert_eq!(reasons(run), (End::Cycles, counted));
+    }
+    for (offers, counted) in [("0 0\n7 1", [1, 6, 0, 0, 0, 0]), ("3 0\n7 x", [0, 3, 0, 0, 0, 0])] {
+        let (end, cycles) = reasons(run_from(0, offers));
+        assert!(matches!(end, End::Fault(_)), "{end:?}");
+        assert_eq!(cycles, counted);
+    }
+    let refused = End::Refused(Refusal { number: 11, place: 0 });
+    let run = run_from(LAST_CLOCK - 3, "4294967293 0\n4294967293 0");
+    assert_eq!(reasons(run), (refused, [1, 1, 1, 0, 0, 0]));
+}
+
+#[test]
+fn a_cycle_without_a_reason_is_told() {
+    let mut run = run_from(0, "0 0");
+    run.cycles = Some(3);
+    assert_eq!(run.go_to_end().unwrap(), End::Cycles);
+    run.why = Some(Why::new(0, &run_from(0, "").state).unwrap());
+    let broken = "of 3 cycles 0 have a reason".to_string();
+    assert_eq!(run.last_checks(End::Cycles), End::Broken(broken));
+}
+
 #[test]
 fn a_set_is_offered_in_its_cycle() {
     let mut run = run_from(0, "0 0\n4 0 0 0\n5 0\n");
