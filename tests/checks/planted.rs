@@ -7,6 +7,7 @@ mod faults {
     pub mod lines;
     pub mod periods;
     pub mod trial_lines;
+    pub mod why;
 }
 
 use second::compare::Tally;
@@ -14,6 +15,7 @@ use second::compare::parts::Extent;
 use second::desk::calls;
 use second::desk::expected::{EXIT_HEADS, HEADS, RECENT_HEADS};
 use second::desk::program::{Caller, Program};
+use second::desk::why::row;
 use std::panic::{AssertUnwindSafe, catch_unwind, set_hook, take_hook};
 
 #[test]
@@ -27,6 +29,7 @@ fn faults_are_noticed() {
         faults::lines::FAULTS,
         faults::periods::FAULTS,
         faults::trial_lines::FAULTS,
+        faults::why::FAULTS,
     ];
     for (name, caller, reason) in planted.concat() {
         match difference(&desk, caller) {
@@ -50,11 +53,14 @@ fn difference(desk: &str, caller: Caller) -> Option<String> {
 
 /// The names of the columns in which two lines of a run differ, if that is what is told.
 fn columns(told: &str) -> Option<String> {
-    let [left, right] = ["  left: \"", " right: \""].map(|side| {
-        let line = told.lines().find_map(|line| line.strip_prefix(side)?.strip_suffix('"'))?;
-        Some(line.split_whitespace().collect::<Vec<_>>())
-    });
+    let [left, right] = ["  left: \"", " right: \""]
+        .map(|side| told.lines().find_map(|line| line.strip_prefix(side)?.strip_suffix('"')));
     let (left, right) = (left?, right?);
+    if let (Some((reason, _, words)), Some((other, _, others))) = (row(left), row(right)) {
+        return ((reason, words) == (other, others))
+            .then(|| format!("columns cycles of {reason}."));
+    }
+    let [left, right] = [left, right].map(|line| line.split_whitespace().collect::<Vec<_>>());
     let with_recent = format!("{HEADS} {RECENT_HEADS}");
     let heads = [EXIT_HEADS, HEADS, &with_recent].map(|heads| heads.split(' ').collect::<Vec<_>>());
     let heads =

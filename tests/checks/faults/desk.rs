@@ -54,7 +54,16 @@ pub const FAULTS: &[Fault] = &[
         "columns refused.",
     ),
     ("the table's last flow missing", last_row_missing, "ended at cycle"),
-    ("a step too many with --cycles", one_more_cycle, "columns"),
+    (
+        "a step too many with --cycles",
+        |desk, words, input| {
+            with_number(desk, words, input, "--cycles", |cycles| match cycles {
+                0..0xFFFF_FFFF => cycles + 1,
+                _ => cycles,
+            })
+        },
+        "columns",
+    ),
     (
         "exits in spite of --summary",
         |desk, words, input| {
@@ -69,7 +78,7 @@ pub const FAULTS: &[Fault] = &[
     (
         "the last L - 1 deliveries for the last L",
         |desk, words, input| {
-            with_recent(desk, words, input, |last| match last {
+            with_number(desk, words, input, "--recent", |last| match last {
                 2..=16 => last - 1,
                 _ => last,
             })
@@ -120,16 +129,12 @@ pub const FAULTS: &[Fault] = &[
     ),
     (
         "L 17 taken as 16",
-        |desk, words, input| with_recent(desk, words, input, |last| last.min(16)),
+        |desk, words, input| with_number(desk, words, input, "--recent", |last| last.min(16)),
         "the number of --recent is 17",
     ),
     (
         "the second of two --recent passed over",
-        |desk, words, input| {
-            let once = words.contains(&"--recent") && words.contains(&"--recent=4");
-            let words = words.iter().filter(|word| !once || **word != "--recent=4");
-            desk.answer(&words.copied().collect::<Vec<_>>(), input)
-        },
+        |desk, words, input| without_second(desk, words, input, "--recent", "--recent=4"),
         "run takes --recent once",
     ),
     (
@@ -225,7 +230,8 @@ fn exit(line: &str) -> Option<Vec<i64>> {
 pub fn of_rows(output: Output, change: impl Fn(&mut Vec<String>)) -> Output {
     of_lines(output, |line| {
         let mut cells: Vec<String> = line.split_whitespace().map(String::from).collect();
-        if ![12, 15].contains(&cells.len()) || cells[0].parse::<u32>().is_err() {
+        let is_row = [12, 15].contains(&cells.len());
+        if !is_row || cells[..6].iter().any(|cell| cell.parse::<u64>().is_err()) {
             return line.to_string();
         }
         let mut rest = line;
@@ -249,20 +255,35 @@ fn of_recent(output: Output, change: impl Fn(&mut Vec<String>)) -> Output {
     })
 }
 
-/// The call with another number of --recent.
-fn with_recent(
+/// The call with another number of an option.
+pub fn with_number(
     desk: &Program,
     words: &[&str],
     input: &[u8],
+    option: &str,
     change: impl Fn(u64) -> u64,
 ) -> Output {
     let mut words = words.to_vec();
-    let at = words.iter().position(|word| *word == "--recent").map(|at| at + 1);
-    let last = at.and_then(|at| words.get(at)?.parse().ok()).map(|last| change(last).to_string());
-    if let (Some(at), Some(last)) = (at, &last) {
-        words[at] = last;
+    let at = words.iter().position(|word| *word == option).map(|at| at + 1);
+    let number =
+        at.and_then(|at| words.get(at)?.parse().ok()).map(|number| change(number).to_string());
+    if let (Some(at), Some(number)) = (at, &number) {
+        words[at] = number;
     }
     desk.answer(&words, input)
+}
+
+/// A call with an option twice, as if the second weren't there.
+pub fn without_second(
+    desk: &Program,
+    words: &[&str],
+    input: &[u8],
+    first: &str,
+    second: &str,
+) -> Output {
+    let is_twice = words.contains(&first) && words.contains(&second);
+    let words = words.iter().filter(|word| !is_twice || **word != second);
+    desk.answer(&words.copied().collect::<Vec<_>>(), input)
 }
 
 fn exits_exchanged(desk: &Program, words: &[&str], input: &[u8]) -> Output {
@@ -332,17 +353,6 @@ fn last_row_missing(desk: &Program, words: &[&str], input: &[u8]) -> Output {
         return Output { out: lines.concat().into_bytes(), ..output };
     }
     output
-}
-
-fn one_more_cycle(desk: &Program, words: &[&str], input: &[u8]) -> Output {
-    let mut words = words.to_vec();
-    let at = words.iter().position(|word| *word == "--cycles").map(|at| at + 1);
-    let more = at.and_then(|at| words.get(at)?.parse::<u32>().ok()?.checked_add(1));
-    let more = more.map(|cycles| cycles.to_string());
-    if let (Some(at), Some(more)) = (at, &more) {
-        words[at] = more;
-    }
-    desk.answer(&words, input)
 }
 
 /// Changes what is told of a text's faults.

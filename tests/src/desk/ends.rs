@@ -1,10 +1,11 @@
 //! How the program ends: wrong words, files that can't be read or written, an interrupt, a closed
 //! pipe, and a stream that is far longer than the memory that it is given.
 
-use super::program::{Output, Program, write};
+use super::program::{Output, Program, same_lines, write};
+use super::why::Why;
 use crate::compare::Tally;
 use std::fs;
-use std::io::{BufRead, BufReader, BufWriter, Read, Write};
+use std::io::{BufWriter, Write};
 use std::process::{Command, Stdio};
 
 const MODE: &[u8] = b"torus 4 4\nflow 1 0 2 0 10 1\nflow 0 0 3 0 10 1\n";
@@ -20,7 +21,6 @@ pub fn calls(program: &Program, tally: &mut Tally) {
 
 /// What only a running program shows.
 pub fn processes(program: &Program) {
-    interrupt(program);
     closed_pipe(program);
     long_stream(program);
 }
@@ -159,31 +159,25 @@ fn standard_streams(program: &Program, tally: &mut Tally) {
     fs::remove_file(program.file("old.plan")).unwrap();
 }
 
-/// An interrupt while more offers are awaited: the table so far.
-fn interrupt(program: &Program) {
-    let mut child = program.start(&["run", "a mode.plan"]);
-    let mut stdin = child.stdin.take().unwrap();
-    let mut stdout = BufReader::new(child.stdout.take().unwrap());
-    stdin.write_all(b"0 0\n4 1\n9 0\n").unwrap();
-    let mut lines = String::new();
-    for _ in 0..2 {
-        stdout.read_line(&mut lines).unwrap();
-    }
-    let signal = Command::new("kill").args(["-INT", &child.id().to_string()]).status().unwrap();
-    assert!(signal.success());
-    stdout.read_to_string(&mut lines).unwrap();
-    let expected = "exit flow serial offer entry wait deflections flight
+/// An interrupt while more offers are awaited: the table so far, and the reasons so far if they are asked
+/// for.
+pub fn interrupted(program: &Program, tally: &mut Tally) {
+    let tables = "exit flow serial offer entry wait deflections flight
 1 0 1 0 0 0 0 3
 7 1 1 4 4 0 0 5
 
 flow  offered  refused  left  waiting  flying  wait  wait-bound  spare  nearest  flight  flight-bound
    0        2        0     1        1       0     0          11     11       11       3             3
    1        1        0     1        0       0     0           9      9        9       5             5
-ended at cycle 9: interrupted
 ";
-    assert_eq!(lines, expected);
-    assert_eq!(child.wait().unwrap().code(), Some(130));
-    drop(stdin);
+    let reasons = Why { flow: 0, cycles: [1, 8, 0, 0, 0, 0] }.table();
+    for (words, reasons) in [(&[][..], ""), (&["--why", "0"], &reasons)] {
+        let words = [&["run", "a mode.plan"], words].concat();
+        let got = program.interrupt(tally, &words, b"0 0\n4 1\n9 0\n", 2);
+        let expected = format!("{tables}{reasons}ended at cycle 9: interrupted\n");
+        same_lines(tally, &words, &expected, &got.out);
+        assert_eq!((got.status, got.err.as_str()), (130, ""));
+    }
 }
 
 /// Nobody reads on: it ends without a word.

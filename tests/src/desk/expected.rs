@@ -1,7 +1,8 @@
-//! What `run` prints, by the packet book's lines, U1's records, U4's sets of flows and U6's trial
-//! generator.
+//! What `run` prints, by the packet book's lines, U1's records, U4's sets of flows, U6's trial generator
+//! and U7's reasons.
 
-use crate::book::{Book, Line};
+use super::why::Why;
+use crate::book::{Book, Delivery, Line};
 use crate::offers::MOST_WAITING;
 use crate::plan::{Plan, Refusal};
 use crate::recent::{Record, feed};
@@ -21,11 +22,13 @@ pub enum Entry {
 }
 
 /// How a run is called.
-#[derive(Clone, Copy, Debug)]
+#[derive(Clone, Copy, Debug, Default)]
 pub struct Options {
     pub cycles: Option<i64>,
     pub recent: Option<usize>,
     pub summary: bool,
+    /// The flow whose reasons are asked for.
+    pub why: Option<usize>,
 }
 
 /// The run as the book has it.
@@ -39,6 +42,8 @@ struct Run {
     exits: Vec<usize>,
     /// The flows' last deliveries, if they are asked for.
     records: Option<Vec<Record>>,
+    /// A flow's reasons, if they are asked for.
+    why: Option<Why>,
     /// How it ended.
     end: &'static str,
 }
@@ -60,6 +65,7 @@ pub fn printed(plan: &Plan, entries: &[Entry], options: Options) -> String {
         text += "\n";
     }
     text += &table(&run);
+    text += &run.why.map(|why| why.table()).unwrap_or_default();
     writeln!(text, "ended at cycle {}: {}", run.book.clock, run.end).unwrap();
     text
 }
@@ -90,7 +96,7 @@ fn ran(plan: &Plan, entries: &[Entry], options: Options) -> Run {
             run.end = "everything has left";
             return run;
         }
-        for delivery in run.book.step(5 * plan.routers()).unwrap() {
+        for delivery in run.step() {
             let [flow, serial, ..] = delivery;
             run.exits.push(run.by_packet[&(flow as usize, serial as i64)]);
             if let (Some(records), Some(last)) = (&mut run.records, options.recent) {
@@ -110,8 +116,19 @@ impl Run {
             by_packet: HashMap::new(),
             exits: Vec::new(),
             records: options.recent.map(|_| vec![Record::default(); flows]),
+            why: options.why.map(|flow| Why { flow, cycles: [0; 6] }),
             end: "",
         }
+    }
+
+    fn step(&mut self) -> Vec<Delivery> {
+        let (words, flows) = (5 * self.book.plan.routers(), self.book.plan.flows.len());
+        let Some(why) = &mut self.why else {
+            return self.book.step(words).unwrap();
+        };
+        let (exits, reasons) = self.book.step_reasons(words, flows).unwrap();
+        why.cycles[reasons[why.flow] as usize] += 1;
+        exits
     }
 
     fn offer(&mut self, flows: &[u32]) {

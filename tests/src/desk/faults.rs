@@ -158,8 +158,7 @@ pub fn streams(program: &Program, tally: &mut Tally) {
     write(&program.file("mode.plan"), &plan.file(b""));
     let [first, second] =
         [(0, 0), (6, 1)].map(|(cycle, flow)| Entry::Offer { cycle, flows: vec![flow] });
-    let options = Options { cycles: None, recent: None, summary: false };
-    let expected = printed(&plan, &[first, second, Entry::Fault], options);
+    let expected = printed(&plan, &[first, second, Entry::Fault], Options::default());
     let last = "it must be 0 to 4294967294";
     let long = format!("the line is too long; {LINE}, in at most 65535 bytes");
     let what = |line: &str| format!("what is '{line}'? {LINE}, {EXAMPLES}");

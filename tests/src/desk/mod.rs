@@ -1,6 +1,6 @@
 //! The desk program beside the second simulator: what `run` prints for random plans and streams, the
 //! round trip of `show` and `plan`, each fault of texts and streams, long periods, lines of several
-//! flows and of the trial generator, and how it ends.
+//! flows and of the trial generator, why a flow waits, and how it ends.
 
 mod ends;
 pub mod expected;
@@ -11,6 +11,7 @@ mod sets;
 mod streams;
 mod texts;
 mod trials;
+pub mod why;
 
 use crate::compare::Tally;
 use crate::compare::parts::{Extent, rounds};
@@ -31,6 +32,13 @@ pub fn calls(program: &Program, tally: &mut Tally, extent: Extent) {
     faults::texts(program, tally);
     faults::streams(program, tally);
     ends::calls(program, tally);
+    ends::interrupted(program, tally);
+    why::each_reason(program, tally);
+    why::each_ending(program, tally);
+    why::both_ends(program, tally);
+    why::spelled(program, tally);
+    why::words(program, tally);
+    why::unknown(program, tally);
     streams::full_queue(program, tally);
     sets::behind_each_other(program, tally);
     sets::full_queue(program, tally);

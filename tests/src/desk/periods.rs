@@ -68,7 +68,7 @@ fn lone(flows: &[(i64, i64)]) -> Plan {
 /// A packet that is offered a cycle after the only token was taken waits for the next one as long as
 /// its bound allows. And bounds of ten digits, as a bucket of the longest period is emptied.
 pub fn runs(program: &Program, tally: &mut Tally) {
-    let options = |summary| Options { cycles: None, recent: None, summary };
+    let options = |summary| Options { summary, why: Some(0), ..Options::default() };
     for period in [65_537, 65_536] {
         let stream = Stream::of(vec![(0, vec![0]), (1, vec![0])]);
         compare(program, tally, &lone(&[(period, 1)]), &stream, options(false));
@@ -83,11 +83,20 @@ pub fn longest(program: &Program) {
     let plan = lone(&[(MOST_PERIOD, 255), (MOST_PERIOD, 1)]);
     write(&program.file("run.plan"), &plan.file(b""));
     let stream = Stream::of(vec![(0, vec![0; 256])]);
-    let got = program.answer(&["run", "run.plan", "--summary"], stream.text.as_bytes());
+    let words = ["run", "run.plan", "--summary", "--why", "0"];
+    let got = program.answer(&words, stream.text.as_bytes());
     let expected = "\
 flow  offered  refused  left  waiting  flying      wait  wait-bound       spare   nearest  flight  flight-bound
    0      256        0   256        0       0  16777215  4294967551  4278190336  16777216       2             2
    1        0        0     0        0       0         -           -           -         -       -             2
+
+why    cycles  flow 0
+  0       256  it entered
+  1         0  nothing waiting
+  2  16776960  no token
+  3         0  its port is E and W held a packet
+  4         0  its port is S and a network packet took S
+  5         0  a lower-numbered flow of its client entered
 ended at cycle 16777216: everything has left
 ";
     same_lines(&Tally::new(0), &plan, expected, &got.out);

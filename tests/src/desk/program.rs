@@ -3,15 +3,18 @@
 //! A fault may be planted in how it is called: then the comparison must notice.
 
 use crate::compare::Tally;
-use std::io::Write;
+use std::cell::Cell;
+use std::io::{BufRead, BufReader, Read, Write};
 use std::path::{Path, PathBuf};
-use std::process::{Child, Command, Stdio};
+use std::process::{self, Child, Command, Stdio};
 use std::{fs, thread};
 
 pub struct Program {
     path: String,
     folder: PathBuf,
     caller: Caller,
+    /// How many lines a call prints before it is interrupted, if it is.
+    interrupt: Cell<Option<usize>>,
 }
 
 /// What a call with these words and this standard input gives, and leaves in the folder.
@@ -36,7 +39,7 @@ impl Program {
         let path = path.into_os_string().into_string().unwrap();
         let folder = std::env::temp_dir().join(format!("desk.{}", std::process::id()));
         fs::create_dir(&folder).unwrap_or_else(|why| panic!("{}: {why}", folder.display()));
-        Program { path, folder, caller }
+        Program { path, folder, caller, interrupt: Cell::new(None) }
     }
 
     pub fn path(&self) -> &str {
@@ -76,18 +79,55 @@ impl Program {
         output
     }
 
+    /// Calls the program, and interrupts it once it has printed so many lines and awaits more input.
+    pub fn interrupt(
+        &self,
+        tally: &mut Tally,
+        words: &[&str],
+        input: &[u8],
+        lines: usize,
+    ) -> Output {
+        self.interrupt.set(Some(lines));
+        let output = self.call(tally, words, input);
+        self.interrupt.set(None);
+        output
+    }
+
     /// What the program itself gives.
     pub fn answer(&self, words: &[&str], input: &[u8]) -> Output {
-        let mut child = self.start(words);
-        let mut stdin = child.stdin.take().unwrap();
-        let output = thread::scope(|scope| {
-            // A program that has seen enough may close its input early.
-            scope.spawn(move || drop(stdin.write_all(input)));
-            child.wait_with_output().unwrap()
-        });
+        let child = self.start(words);
+        let output = match self.interrupt.get() {
+            None => to_its_end(child, input),
+            Some(lines) => interrupted(child, input, lines),
+        };
         let err = String::from_utf8(output.stderr).unwrap();
         Output { out: output.stdout, err, status: output.status.code().unwrap_or(-1) }
     }
+}
+
+fn to_its_end(mut child: Child, input: &[u8]) -> process::Output {
+    let mut stdin = child.stdin.take().unwrap();
+    thread::scope(|scope| {
+        // A program that has seen enough may close its input early.
+        scope.spawn(move || drop(stdin.write_all(input)));
+        child.wait_with_output().unwrap()
+    })
+}
+
+fn interrupted(mut child: Child, input: &[u8], lines: usize) -> process::Output {
+    let mut stdin = child.stdin.take().unwrap();
+    let mut stdout = BufReader::new(child.stdout.take().unwrap());
+    let _ = stdin.write_all(input);
+    let mut out = Vec::new();
+    for _ in 0..lines {
+        stdout.read_until(b'\n', &mut out).unwrap();
+    }
+    let signal = Command::new("kill").args(["-INT", &child.id().to_string()]).status().unwrap();
+    assert!(signal.success());
+    stdout.read_to_end(&mut out).unwrap();
+    let output = child.wait_with_output().unwrap();
+    drop(stdin);
+    process::Output { stdout: out, ..output }
 }
 
 impl Drop for Program {

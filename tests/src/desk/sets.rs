@@ -73,7 +73,7 @@ pub fn faulty(cycle: i64) -> Vec<(String, String)> {
 
 /// Packets of one line wait behind each other: the bound of each has its own q.
 pub fn behind_each_other(program: &Program, tally: &mut Tally) {
-    let options = Options { cycles: None, recent: None, summary: true };
+    let options = Options { summary: true, ..Options::default() };
     for lines in [
         vec![(0, vec![1, 1])],
         vec![(0, vec![1, 0, 1, 1, 0])],
@@ -102,7 +102,7 @@ pub fn full_queue(program: &Program, tally: &mut Tally) {
         (1, vec![0, 1, 3]),
         (40, vec![0, 0]),
     ];
-    let options = Options { cycles: Some(2004), recent: None, summary: true };
+    let options = Options { cycles: Some(2004), summary: true, ..Options::default() };
     compare(program, tally, &plan, &Stream::of(lines.to_vec()), options);
 
     // A flow that isn't in the plan is told, also behind one that finds no room.
@@ -126,7 +126,7 @@ pub fn full_queues(program: &Program, tally: &mut Tally) {
             let count = 1 + cycle as usize % 4;
             lines.push((cycle, (0..count).map(flow).collect()));
         }
-        let options = Options { cycles: Some(120), recent: Some(3), summary: false };
+        let options = Options { cycles: Some(120), recent: Some(3), ..Options::default() };
         compare(program, tally, &plan, &Stream::of(lines), options);
     }
 }

@@ -69,7 +69,9 @@ pub fn round(program: &Program, tally: &mut Tally, random: &mut Random, sx: i64,
     let bounded = random.percent(30) || is_long(&plan, &stream);
     let cycles = bounded.then(|| random.from(0, 2000));
     let recent = random.percent(40).then(|| 1 + random.index(16));
-    let options = Options { cycles, recent, summary: random.percent(20) };
+    let summary = random.percent(20);
+    let why = random.percent(30).then(|| random.index(flows));
+    let options = Options { cycles, recent, summary, why };
     compare(program, tally, &plan, &stream, options);
 }
 
@@ -182,14 +184,14 @@ pub fn compare(
 ) {
     let file = plan.file(b"");
     write(&program.file("run.plan"), &file);
-    let cycles = options.cycles.map(|cycles| cycles.to_string());
-    let recent = options.recent.map(|last| last.to_string());
+    let numbers = [
+        ("--cycles", options.cycles.map(|cycles| cycles.to_string())),
+        ("--recent", options.recent.map(|last| last.to_string())),
+        ("--why", options.why.map(|flow| flow.to_string())),
+    ];
     let mut words = vec!["run", "run.plan"];
-    if let Some(cycles) = &cycles {
-        words.extend(["--cycles", cycles]);
-    }
-    if let Some(recent) = &recent {
-        words.extend(["--recent", recent]);
+    for (option, number) in &numbers {
+        words.extend(number.iter().flat_map(|number| [*option, number]));
     }
     if options.summary {
         words.push("--summary");
@@ -210,7 +212,7 @@ pub fn full_queue(program: &Program, tally: &mut Tally) {
     let plan = crate::slips::met_exactly().0;
     let mut lines = vec![(0, vec![1]); 65_540];
     lines.push((40, vec![0]));
-    let options = Options { cycles: Some(2004), recent: Some(16), summary: false };
+    let options = Options { cycles: Some(2004), recent: Some(16), ..Options::default() };
     compare(program, tally, &plan, &Stream::of(lines), options);
 }
 
@@ -222,7 +224,7 @@ pub fn met_exactly(program: &Program, tally: &mut Tally) {
     let at_once = cycles().map(|(cycle, flows)| (cycle, flows.clone())).collect();
     let one_by_one =
         cycles().flat_map(|(cycle, flows)| flows.iter().map(move |&flow| (cycle, vec![flow])));
-    let options = Options { cycles: None, recent: None, summary: true };
+    let options = Options { summary: true, ..Options::default() };
     for lines in [one_by_one.collect(), at_once] {
         let stream = Stream::of(lines);
         let table = printed(&plan, &stream.entries, options);

@@ -49,7 +49,7 @@ fn sonar(cycle: i64, flows: &[u32]) -> Entry {
 /// More packets of the generator than may wait, all at once.
 pub fn alone(program: &Program, tally: &mut Tally) {
     let stream = Stream::of_entries(vec![trial(0, 1); 260]);
-    let options = Options { cycles: Some(1), recent: None, summary: true };
+    let options = Options { cycles: Some(1), summary: true, ..Options::default() };
     compare(program, tally, &sample(), &stream, options);
 }
 
@@ -61,7 +61,7 @@ pub fn beside_the_sonar(program: &Program, tally: &mut Tally) {
     entries.extend((1..60).flat_map(|cycle| [trial(cycle, 1), trial(cycle, 0), trial(cycle, 1)]));
     entries.extend([sonar(60, &[1]), trial(60, 1), sonar(60, &[1, 1])]);
     for summary in [true, false] {
-        let options = Options { cycles: None, recent: Some(2), summary };
+        let options = Options { recent: Some(2), summary, ..Options::default() };
         compare(program, tally, &sample(), &Stream::of_entries(entries.clone()), options);
     }
 }
@@ -72,7 +72,7 @@ pub fn full_queue(program: &Program, tally: &mut Tally) {
     let mut entries = vec![trial(0, 1), sonar(0, &full), sonar(0, &full), trial(0, 1)];
     entries.extend([sonar(0, &[1]), trial(0, 1), sonar(0, &[1]), sonar(0, &[0, 1]), trial(0, 0)]);
     entries.extend([trial(2, 1), sonar(2, &[1]), sonar(2, &[1])]);
-    let options = Options { cycles: Some(40), recent: None, summary: true };
+    let options = Options { cycles: Some(40), summary: true, ..Options::default() };
     compare(program, tally, &sample(), &Stream::of_entries(entries), options);
 }
 
@@ -95,7 +95,7 @@ pub fn queues(program: &Program, tally: &mut Tally) {
                 _ => trial(cycle, flow),
             });
         }
-        let options = Options { cycles: Some(400), recent: Some(3), summary: false };
+        let options = Options { cycles: Some(400), recent: Some(3), ..Options::default() };
         compare(program, tally, &plan, &Stream::of_entries(entries), options);
     }
 }
