@@ -1,11 +1,14 @@
-/* Bounds that are wrong: where LOWERED is window or flight, that call's answer is one less than the archive's. Linked into the
- * desk with --wrap, to see that it tells a broken bound. */
+/* Bounds and reasons that are wrong: where LOWERED is window or flight, that call's answer is one less than the archive's, and
+ * where REASON is a number, a step tells it as each flow's reason. Linked into the desk with --wrap, to see that it tells what
+ * can't happen. */
 #include "hrt.h"
 #include <stdlib.h>
 #include <string.h>
 
 uint32_t __real_hrt_window(const uint8_t *plan, size_t plan_bytes, uint32_t flow);
 uint64_t __real_hrt_flight(const uint8_t *plan, size_t plan_bytes, uint32_t flow);
+uint64_t __real_hrt_step_reasons(uint32_t *state, size_t state_words, uint32_t *delivery, size_t delivery_words,
+                                 uint32_t *reasons, size_t reason_words);
 
 static int lowered(const char *call) {
   const char *name = getenv("LOWERED");
@@ -18,4 +21,13 @@ uint32_t __wrap_hrt_window(const uint8_t *plan, size_t plan_bytes, uint32_t flow
 
 uint64_t __wrap_hrt_flight(const uint8_t *plan, size_t plan_bytes, uint32_t flow) {
   return __real_hrt_flight(plan, plan_bytes, flow) - lowered("flight");
+}
+
+uint64_t __wrap_hrt_step_reasons(uint32_t *state, size_t state_words, uint32_t *delivery, size_t delivery_words,
+                                 uint32_t *reasons, size_t reason_words) {
+  uint64_t answer = __real_hrt_step_reasons(state, state_words, delivery, delivery_words, reasons, reason_words);
+  const char *reason = getenv("REASON");
+  for (size_t flow = 0; reason && flow < reason_words; flow++)
+    reasons[flow] = (uint32_t)strtoul(reason, NULL, 10);
+  return answer;
 }
