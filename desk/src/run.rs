@@ -246,8 +246,9 @@ impl<R: Read> Run<R> {
     }
 }
 
-/// Enters what a step delivered in the tallies and prints it: how many left, or why the run ends.
-#[inline]
+/// Enters what a step delivered in the tallies and prints it: how many left, or why the run ends. Inlined
+/// in each kind of step, so that none has a call more.
+#[inline(always)]
 fn leave(
     exits: Result<impl Iterator<Item = Delivery>, Refusal>,
     tallies: &mut [Tally],
