@@ -7,6 +7,10 @@ use hrt::{Flow, Plan};
 
 /// A run of one flow, (0,0) to (3,3) on 4 by 4, from this clock on.
 fn run_from(clock: u32, offers: &'static str) -> Run<&'static [u8]> {
+    run_of(clock, offers.as_bytes())
+}
+
+fn run_of<R: Read>(clock: u32, offers: R) -> Run<R> {
     let flow = Flow { xs: 0, ys: 0, xd: 3, yd: 3, period: 10, burst: 1 };
     let fresh = State::fresh(4, 4, &[flow]).unwrap();
     let plan = Plan::read(fresh.write(b"").unwrap()).unwrap();
@@ -14,7 +18,7 @@ fn run_from(clock: u32, offers: &'static str) -> Run<&'static [u8]> {
     let mut words = fresh.words().to_vec();
     words[3] = clock;
     let state = State::of_words(words).unwrap();
-    Run::new(state, tallies, Offers::of("offers".to_string(), offers.as_bytes()))
+    Run::new(state, tallies, Offers::of("offers".to_string(), offers))
 }
 
 #[test]
@@ -63,8 +67,20 @@ fn records_have_the_last_deliveries() {
     assert_eq!(run.records.unwrap().cells(0), ["2", "8", "0"]);
 }
 
+/// Offers that can be read to here.
+struct Torn(&'static [u8]);
+
+impl Read for Torn {
+    fn read(&mut self, buffer: &mut [u8]) -> io::Result<usize> {
+        match self.0.read(buffer) {
+            Ok(0) => Err(io::Error::other("torn")),
+            read => read,
+        }
+    }
+}
+
 /// What a run's reasons are at its end, those of its one flow being counted.
-fn reasons(mut run: Run<&'static [u8]>) -> (End, [u64; 6]) {
+fn reasons(mut run: Run<impl Read>) -> (End, [u64; 6]) {
     run.why = Some(Why::new(0, &run.state).unwrap());
     let end = run.go_to_end().unwrap();
     (run.last_checks(end), run.why.unwrap().cycles)
@@ -83,6 +99,9 @@ fn reasons_are_counted_to_each_end() {
         assert!(matches!(end, End::Fault(_)), "{end:?}");
         assert_eq!(cycles, counted);
     }
+    let unreadable = End::Unreadable("the offers can't be read: torn".to_string());
+    let run = run_of(0, Torn(b"0 0\n5 0\n"));
+    assert_eq!(reasons(run), (unreadable, [1, 4, 0, 0, 0, 0]));
     let refused = End::Refused(Refusal { number: 11, place: 0 });
     let run = run_from(LAST_CLOCK - 3, "4294967293 0\n4294967293 0");
     assert_eq!(reasons(run), (refused, [1, 1, 1, 0, 0, 0]));
