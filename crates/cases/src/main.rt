@@ -8,7 +8,7 @@ use plan::Answer;
 ghost use Prim.Native.Nat.{_≤_, _<_};
 ghost use lib.ListN.{length};
 
-// The words, as their letters' bytes: #, read, window, flight, reset, offer, trial, set, step, write, word, byte.
+// The words, as their letters' bytes: #, read, window, flight, reset, offer, trial, set, step, why, write, word, byte.
 const NOTE: u64 = 0x23;
 
 const READ: u64 = 0x72656164;
@@ -26,6 +26,8 @@ const TRIAL: u64 = 0x747269616c;
 const SET: u64 = 0x736574;
 
 const STEP: u64 = 0x73746570;
+
+const WHY: u64 = 0x776879;
 
 const WRITE: u64 = 0x7772697465;
 
@@ -74,6 +76,13 @@ fn tell_first(delivery: &[u32; 80]) {
     }
 }
 
+// Both words of a reason list.
+fn tell_reasons(reasons: &[u32; 2]) {
+    mark(b':');
+    number(reasons[0]);
+    number(reasons[1]);
+}
+
 // What is lent is no longer than the memory.
 fn at_most(n: u64, most: usize) -> usize
     ensures { λ r. ⌜ r ≤ most ⌝ }
@@ -98,6 +107,18 @@ fn step(state: &mut [u32], room: u32) -> Answer {
     let n = at_most(room as u64, 80);
     let answer = step::step(state, &mut delivery[..n]);
     tell_first(&delivery);
+    answer
+}
+
+// A step that tells reasons, with nines in the delivery memory and in a list of so many words, at most two: both words of the list
+// afterwards stand before the answer.
+fn step_reasons(state: &mut [u32], list: usize, room: u32) -> Answer {
+    let mut delivery = [9u32; 80];
+    let mut reasons = [9u32; 2];
+    let n = at_most(room as u64, 80);
+    let k = at_most(list as u64, 2);
+    let answer = step::step_reasons(state, &mut delivery[..n], &mut reasons[..k]);
+    tell_reasons(&reasons);
     answer
 }
 
@@ -136,12 +157,13 @@ fn call(word: u64, file: &[u8], state: &mut [u32], last: u32) -> Answer {
         TRIAL => offer::offer(Offerer::Generator, state, last),
         SET => offer_set(state, file.len(), last),
         STEP => step(state, last),
+        WHY => step_reasons(state, file.len(), last),
         _ => ask(word, file, state, last),
     }
 }
 
-// The first bytes of the plan file and the first words of the state are lent, as many as the line says. A set has as many entries as
-// there would be bytes.
+// The first bytes of the plan file and the first words of the state are lent, as many as the line says. A set has as many entries, and
+// a reason list as many words, as there would be bytes.
 fn lend(word: u64, file: &[u8], bytes: u64, state: &mut [u32], words: u64, last: u32) {
     let n = at_most(bytes, file.len());
     let k = at_most(words, state.len());
@@ -191,6 +213,7 @@ fn fitting(word: u64, a: u64, b: u64, c: u64) -> bool {
         WORD => fits(a, 155, b, 4294967295, line::NONE, c),
         SET => fits(a, 4, b, 156, c, 4294967295),
         STEP => fits(a, 0, b, 156, c, 80),
+        WHY => fits(a, 2, b, 156, c, 80),
         WRITE => fits(a, 65537, b, 156, c, 24),
         _ => fits(a, 65537, b, 156, c, 4294967295),
     }
