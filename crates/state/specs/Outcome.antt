@@ -31,7 +31,7 @@ module _ {M : Type 0} where
   unless zero memory accepted = accepted
   unless (suc n) memory accepted = refused (suc n) memory
 
-  -- a file's refusal with its place, unless it was accepted
+  -- a refusal with its place, unless that answer is a value
   unfoldable pub unlessRefused : Answer → M → Outcome Answer M → Outcome Answer M
   unlessRefused (Done v) memory accepted = accepted
   unlessRefused (Refused number place) memory accepted = outcome (Refused number place) memory
