@@ -41,7 +41,7 @@ abbrev pub closedBy : Port → Reason
 closedBy East = WestHeld
 closedBy South = SouthTaken
 
--- a port is closed by that packet, and is open without it
+-- the reason by the flow's port: a closed one is closed by that packet
 module _ (s : Seen) (x y : ℕ) where
   abbrev byPort : Port → Reason
   byPort o =
@@ -120,18 +120,18 @@ module _ (p : Plan) (v : View) (f : ℕ) where
         | no above ↦ let same : numberOf q ≡ numberOf r = omega arith in rw (sym (by-number q) ∙ ap byNumber same ∙ by-number r) e
       ]
 
-  -- an open port is closed by nobody
+  -- a port that no packet closes is open
   opened : (o : Port) → samePort o East && not (noPacket ((seenBy p v f) .west)) ≡ false
       → samePort o South && southTaken (seenBy p v f) (xs p v f) (ys p v f) ≡ false → isOpen (seenBy p v f) (xs p v f) o ≡ true
   unfolding isOpen
   opened East e e′ = not-false _ e
   opened South e e′ = not-false _ (sym (south-taken (seenBy p v f) (xs p v f) (ys p v f)) ∙ e′)
 
-  -- none of the first five applies: a lower-numbered flow of the client enters
   lower : (g : ℕ) → g < f → (o : Option ℕ) → isFlow g o ≡ true → isLower f o ≡ true
   lower g l none e = e
   lower g l (some h) e = lt-ltb h f (rw (← (eqb-true h g e)) at l)
 
+  -- where none of the first five applies, a lower-numbered flow of the client enters
   the-rest : f < length (p .flows) → NoneBelow 5 → applies p v f LowerEntered ≡ true
   unfolding applies
   the-rest in-plan low =

@@ -103,7 +103,7 @@ fn advance(state: &mut [u32], delivery: &mut [u32]) -> u32
 }
 
 // One cycle, and before it each flow's reason, with room of its own for the entrants.
-fn advance_telling_in(
+fn tell_in(
     state: &mut [u32],
     told: &mut [u32],
     entrants: &mut [u32],
@@ -137,7 +137,7 @@ fn advance_telling(state: &mut [u32], delivery: &mut [u32], reasons: &mut [u32])
         let mut told = [0u32; 16];
         let mut entrants = [0u32; 16];
         let mut registers = [0u32; state::ROUTER_SIZE * 16];
-        return advance_telling_in(
+        return tell_in(
             state,
             &mut told,
             &mut entrants,
@@ -150,7 +150,7 @@ fn advance_telling(state: &mut [u32], delivery: &mut [u32], reasons: &mut [u32])
         let mut told = [0u32; 64];
         let mut entrants = [0u32; 64];
         let mut registers = [0u32; state::ROUTER_SIZE * 64];
-        return advance_telling_in(
+        return tell_in(
             state,
             &mut told,
             &mut entrants,
@@ -162,7 +162,7 @@ fn advance_telling(state: &mut [u32], delivery: &mut [u32], reasons: &mut [u32])
     let mut told = [0u32; state::MOST_ROUTERS];
     let mut entrants = [0u32; state::MOST_ROUTERS];
     let mut registers = [0u32; state::ROUTER_SIZE * state::MOST_ROUTERS];
-    advance_telling_in(
+    tell_in(
         state,
         &mut told,
         &mut entrants,

@@ -13,23 +13,23 @@ mul-cells c =
     let start = c .before .before .before .before .before in
     omega (arith, cells-most _ (start .pre .0 .facts))
 
-advance-telling-in-requires : tie.Need-advance-telling-in-requires
-advance-telling-in-requires c κs =
+tell-in-requires : tie.Need-tell-in-requires
+tell-in-requires c κs =
     let test = c .before .before .before .before .before .before in
     let p = test .before .before .before .before .before .before .pre in
     let small = test .if1 .taken in
     (room-for _ _ 16 (p .0) small, (no-entrants _ 16 small, p .1))
 
-advance-telling-in-requires-2 : tie.Need-advance-telling-in-requires-2
-advance-telling-in-requires-2 c κs =
+tell-in-requires-2 : tie.Need-tell-in-requires-2
+tell-in-requires-2 c κs =
     let test = c .before .before .before .before .before .before in
     let known = test .before .before .before .before .before .before in
     let p = known .before .pre in
     let small = test .if2 .taken in
     (room-for _ _ 64 (p .0) small, (no-entrants _ 64 small, p .1))
 
-advance-telling-in-requires-3 : tie.Need-advance-telling-in-requires-3
-advance-telling-in-requires-3 c κs =
+tell-in-requires-3 : tie.Need-tell-in-requires-3
+tell-in-requires-3 c κs =
     let test = c .before .before .before .before .before .before in
     let known = test .before .before .before .before .before .before in
     let p = known .before .pre in
@@ -37,18 +37,18 @@ advance-telling-in-requires-3 c κs =
     (room-for _ _ mostRouters (p .0) most, (no-entrants _ mostRouters most, p .1))
 
 returns : tie.Need-returns
-returns c = let state = c .before .before .before .before .before .before in state .before .before .before .advance-telling-in .ensures
+returns c = let state = c .before .before .before .before .before .before in state .before .before .before .tell-in .ensures
 
 returns-2 : tie.Need-returns-2
-returns-2 c = let state = c .before .before .before .before .before .before in state .before .before .before .advance-telling-in2 .ensures
+returns-2 c = let state = c .before .before .before .before .before .before in state .before .before .before .tell-in2 .ensures
 
 returns-3 : tie.Need-returns-3
-returns-3 c = let state = c .before .before .before .before .before .before in state .before .before .before .advance-telling-in3 .ensures
+returns-3 c = let state = c .before .before .before .before .before .before in state .before .before .before .tell-in3 .ensures
 
 pub advance-telling-spec : {M : Type 1} → statement M
 advance-telling-spec =
     tie.close (tie.spec (λ c. search needs) (λ c. search needs) mul-cells (λ c. search needs) (λ c. search needs) (λ c. search needs)
-    advance-telling-in-requires (λ c. search needs) (λ c. search needs) (λ c. search needs) returns (λ c. search needs) (λ c. search needs)
-    (λ c. search needs) advance-telling-in-requires-2 (λ c. search needs) (λ c. search needs) (λ c. search needs) returns-2
-    (λ c. search needs) (λ c. search needs) (λ c. search needs) advance-telling-in-requires-3 (λ c. search needs) (λ c. search needs)
+    tell-in-requires (λ c. search needs) (λ c. search needs) (λ c. search needs) returns (λ c. search needs) (λ c. search needs)
+    (λ c. search needs) tell-in-requires-2 (λ c. search needs) (λ c. search needs) (λ c. search needs) returns-2
+    (λ c. search needs) (λ c. search needs) (λ c. search needs) tell-in-requires-3 (λ c. search needs) (λ c. search needs)
     (λ c. search needs) returns-3)

@@ -1,7 +1,7 @@
--- `advance_telling_in`: the reasons, then the cycle.
+-- `tell_in`: the reasons, then the cycle.
 use borrow.Author.Needs.{needs}
-use Rattle.step.proofs.advance_telling_in.Statement.{statement}
-use Rattle.step.proofs.advance_telling_in.Tie as tie
+use Rattle.step.proofs.tell_in.Statement.{statement}
+use Rattle.step.proofs.tell_in.Tie as tie
 
 returns : tie.Need-returns
 returns c =
@@ -12,7 +12,7 @@ returns c =
     let exits = ran .advance-in .ensures in
     (exits .0, (exits .1 .0, (exits .1 .1, told .tell .ensures)))
 
-pub advance-telling-in-spec : {M : Type 1} → statement M
-advance-telling-in-spec =
+pub tell-in-spec : {M : Type 1} → statement M
+tell-in-spec =
     tie.close (tie.spec (λ c κs. search needs) (λ c κs. search needs) (λ c. search needs) (λ c. search needs) (λ c. search needs)
     (λ c. search needs) (λ c. search needs) (λ c. search needs) returns)
