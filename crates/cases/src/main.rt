@@ -117,7 +117,7 @@ fn step_reasons(state: &mut [u32], list: usize, room: u32) -> Answer {
     let mut reasons = [9u32; 2];
     let n = at_most(room as u64, 80);
     let k = at_most(list as u64, 2);
-    let answer = step::step_reasons(state, &mut delivery[..n], &mut reasons[..k]);
+    let answer = telling::step_reasons(state, &mut delivery[..n], &mut reasons[..k]);
     tell_reasons(&reasons);
     answer
 }

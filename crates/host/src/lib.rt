@@ -1,4 +1,4 @@
-// The C interface, declared in include/hrt.h: thin, over the calls of plan, bounds, reset, writing, offer, offers, step and feed.
+// The C interface, declared in include/hrt.h: thin, over the calls of plan, bounds, reset, writing, offer, offers, step, telling and feed.
 use flow::Offerer;
 use plan::Answer;
 use recent::Recent;
@@ -122,7 +122,7 @@ pub extern "C" fn hrt_step_reasons(
     ensures { λ r. ⌜ outcome r (telling (lent (now (state .exit)) (now (delivery .exit))) (now (reasons .exit)))
         ≡ inWords (stepReasonsOn (now (state .entry)) (now (delivery .entry)) (now (reasons .entry))) ⌝ }
 {
-    answer_word(step::step_reasons(state, delivery, reasons))
+    answer_word(telling::step_reasons(state, delivery, reasons))
 }
 
 // A step's deliveries, each at its flow's record of the last L.

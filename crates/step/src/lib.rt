@@ -1,4 +1,4 @@
-// One step on a state's words, and one that also tells why flows didn't enter. Rests on valid, entry, reasons and routing.
+// One step on a state's words. Rests on valid, entry and routing.
 use plan::Answer;
 ghost use mathlib.Core.Path.{_≡_};
 ghost use Prim.Native.Nat.{_+_, _*_, _<_, _≤_};
@@ -14,7 +14,6 @@ ghost use Rattle.entry.specs.Entrants.{Entrants, AllEntered};
 ghost use Rattle.routing.specs.Walk.{registersIn, pushedAll};
 ghost use Rattle.step.specs.Next.{Stepping, Judged, Room, nextWords};
 ghost use Rattle.cycle.specs.Step.{stepState, deliveries, stepOn};
-ghost use Rattle.cycle.specs.Reasons.{telling, wordsOn, stepReasonsOn};
 
 // Copies n words to a place.
 fn copy(from: &[u32], to: &mut [u32], at: usize, n: usize)
@@ -63,7 +62,7 @@ fn store_next(state: &mut [u32], entrants: &[u32], registers: &[u32])
 }
 
 // One cycle, with room for the entrants and for the next registers.
-fn advance_in(
+pub fn advance_in(
     state: &mut [u32],
     entrants: &mut [u32],
     registers: &mut [u32],
@@ -102,76 +101,6 @@ fn advance(state: &mut [u32], delivery: &mut [u32]) -> u32
     advance_in(state, &mut entrants, &mut registers, delivery)
 }
 
-// One cycle, and before it each flow's reason, with room of its own for the entrants.
-fn tell_in(
-    state: &mut [u32],
-    told: &mut [u32],
-    entrants: &mut [u32],
-    registers: &mut [u32],
-    delivery: &mut [u32],
-    reasons: &mut [u32],
-) -> u32
-    requires { ⌜ Room (now state) (now entrants) (now registers) (now delivery) ⌝ }
-    requires { ⌜ Entrants (stateOf (now state)) 0 (now told) ⌝ }
-    requires { ⌜ countIn (now state) ≤ length (now reasons) ⌝ }
-    ensures { λ _. ⌜ now (state .exit) ≡ over (stateWords (stepState (stateOf (now (state .entry))))) (now (state .entry)) ⌝ }
-    ensures { λ r. ⌜ r ≡ length (deliveries (stateOf (now (state .entry)))) ⌝ }
-    ensures { λ _. ⌜ now (delivery .exit) ≡ over (wordsOf (deliveries (stateOf (now (state .entry))))) (now (delivery .entry)) ⌝ }
-    ensures { λ _. ⌜ now (reasons .exit) ≡ over (wordsOn (stateOf (now (state .entry)))) (now (reasons .entry)) ⌝ }
-{
-    reasons::tell(state, told, reasons);
-    advance_in(state, entrants, registers, delivery)
-}
-
-// One cycle that also tells each flow's reason. A small torus gets little room.
-fn advance_telling(state: &mut [u32], delivery: &mut [u32], reasons: &mut [u32]) -> u32
-    requires { ⌜ Stepping (now state) (now delivery) ⌝ }
-    requires { ⌜ countIn (now state) ≤ length (now reasons) ⌝ }
-    ensures { λ _. ⌜ now (state .exit) ≡ over (stateWords (stepState (stateOf (now (state .entry))))) (now (state .entry)) ⌝ }
-    ensures { λ r. ⌜ r ≡ length (deliveries (stateOf (now (state .entry)))) ⌝ }
-    ensures { λ _. ⌜ now (delivery .exit) ≡ over (wordsOf (deliveries (stateOf (now (state .entry))))) (now (delivery .entry)) ⌝ }
-    ensures { λ _. ⌜ now (reasons .exit) ≡ over (wordsOn (stateOf (now (state .entry)))) (now (reasons .entry)) ⌝ }
-{
-    let cells = state[state::SX] * state[state::SY];
-    if cells <= 16 {
-        let mut told = [0u32; 16];
-        let mut entrants = [0u32; 16];
-        let mut registers = [0u32; state::ROUTER_SIZE * 16];
-        return tell_in(
-            state,
-            &mut told,
-            &mut entrants,
-            &mut registers,
-            delivery,
-            reasons,
-        );
-    }
-    if cells <= 64 {
-        let mut told = [0u32; 64];
-        let mut entrants = [0u32; 64];
-        let mut registers = [0u32; state::ROUTER_SIZE * 64];
-        return tell_in(
-            state,
-            &mut told,
-            &mut entrants,
-            &mut registers,
-            delivery,
-            reasons,
-        );
-    }
-    let mut told = [0u32; state::MOST_ROUTERS];
-    let mut entrants = [0u32; state::MOST_ROUTERS];
-    let mut registers = [0u32; state::ROUTER_SIZE * state::MOST_ROUTERS];
-    tell_in(
-        state,
-        &mut told,
-        &mut entrants,
-        &mut registers,
-        delivery,
-        reasons,
-    )
-}
-
 // The refusal of a step after the state's own, or 0.
 fn step_number(state: &[u32], delivery: &[u32]) -> u32
     requires { ⌜ StateFacts (now state) ⌝ }
@@ -188,7 +117,7 @@ fn step_number(state: &[u32], delivery: &[u32]) -> u32
 }
 
 // What refuses a step: the state's number, then the step's own; 0 if nothing does.
-fn refusal(state: &[u32], delivery: &[u32]) -> u32
+pub fn refusal(state: &[u32], delivery: &[u32]) -> u32
     ensures { λ r. ⌜ Judged (now (state .entry)) (now (delivery .entry)) r ⌝ }
 {
     let number = valid::state_number(state);
@@ -207,24 +136,5 @@ pub fn step(state: &mut [u32], delivery: &mut [u32]) -> Answer
         return Answer::Refused { number, place: 0 };
     }
     let exits = advance(state, delivery);
-    Answer::Done(exits)
-}
-
-// One cycle that also tells why each flow didn't enter, judged before it.
-pub fn step_reasons(state: &mut [u32], delivery: &mut [u32], reasons: &mut [u32]) -> Answer
-    ensures { λ r. ⌜ outcome r (telling (lent (now (state .exit)) (now (delivery .exit))) (now (reasons .exit)))
-        ≡ stepReasonsOn (now (state .entry)) (now (delivery .entry)) (now (reasons .entry)) ⌝ }
-{
-    let number = refusal(state, delivery);
-    if number != 0 {
-        return Answer::Refused { number, place: 0 };
-    }
-    if reasons.len() < state[state::FLOWS] as usize {
-        return Answer::Refused {
-            number: 19,
-            place: 0,
-        };
-    }
-    let exits = advance_telling(state, delivery, reasons);
     Answer::Done(exits)
 }

@@ -4,12 +4,12 @@ use native.Mathlib.Omega.{arith}
 use Rattle.state.specs.Inner.{mostRouters}
 use Rattle.entry.proofs.Clients.{no-entrants}
 use Rattle.cycle.proofs.Facts.{cells-most}
 use Rattle.step.proofs.Next.{room-for}
-use Rattle.step.proofs.advance_telling.Statement.{statement}
-use Rattle.step.proofs.advance_telling.Tie as tie
+use Rattle.telling.proofs.advance_telling.Statement.{statement}
+use Rattle.telling.proofs.advance_telling.Tie as tie
 
-mul-cells : tie.Need-mul-cells
-mul-cells c =
+mul-routers : tie.Need-mul-routers
+mul-routers c =
     let start = c .before .before .before .before .before in
     omega (arith, cells-most _ (start .pre .0 .facts))
 
@@ -47,7 +47,7 @@ returns-3 c = let state = c .before .before .before .before .before .before in s
 
 pub advance-telling-spec : {M : Type 1} → statement M
 advance-telling-spec =
-    tie.close (tie.spec (λ c. search needs) (λ c. search needs) mul-cells (λ c. search needs) (λ c. search needs) (λ c. search needs)
+    tie.close (tie.spec (λ c. search needs) (λ c. search needs) mul-routers (λ c. search needs) (λ c. search needs) (λ c. search needs)
     tell-in-requires (λ c. search needs) (λ c. search needs) (λ c. search needs) returns (λ c. search needs) (λ c. search needs)
     (λ c. search needs) tell-in-requires-2 (λ c. search needs) (λ c. search needs) (λ c. search needs) returns-2
     (λ c. search needs) (λ c. search needs) (λ c. search needs) tell-in-requires-3 (λ c. search needs) (λ c. search needs)

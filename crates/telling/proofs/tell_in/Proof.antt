@@ -1,7 +1,7 @@
 -- `tell_in`: the reasons, then the cycle.
 use borrow.Author.Needs.{needs}
-use Rattle.step.proofs.tell_in.Statement.{statement}
-use Rattle.step.proofs.tell_in.Tie as tie
+use Rattle.telling.proofs.tell_in.Statement.{statement}
+use Rattle.telling.proofs.tell_in.Tie as tie
 
 returns : tie.Need-returns
 returns c =

@@ -2,9 +2,9 @@
 use borrow.Author.Needs.{needs}
 use native.Mathlib.Omega.{arith}
 use Rattle.cycle.proofs.Reasons.{refused-step, short-list, told}
 use Rattle.step.specs.Next.{Stepping}
-use Rattle.step.proofs.step_reasons.Statement.{statement}
-use Rattle.step.proofs.step_reasons.Tie as tie
+use Rattle.telling.proofs.step_reasons.Statement.{statement}
+use Rattle.telling.proofs.step_reasons.Tie as tie
 
 returns : tie.Need-returns
 returns c = refused-step _ _ _ _ (c .before .refusal .ensures .refuses (c .if1 .taken))
