@@ -33,7 +33,8 @@ fn tell_in(
     step::advance_in(state, entrants, registers, delivery)
 }
 
-// One cycle that also tells each flow's reason. A small torus gets little room.
+// One cycle that also tells each flow's reason, with room to tell it, for the entrants and for the next registers. A small torus gets
+// little room.
 fn advance_telling(state: &mut [u32], delivery: &mut [u32], reasons: &mut [u32]) -> u32
     requires { ⌜ Stepping (now state) (now delivery) ⌝ }
     requires { ⌜ countIn (now state) ≤ length (now reasons) ⌝ }
@@ -44,42 +45,21 @@ fn advance_telling(state: &mut [u32], delivery: &mut [u32], reasons: &mut [u32])
 {
     let routers = state[state::SX] * state[state::SY];
     if routers <= 16 {
-        let mut told = [0u32; 16];
+        let mut why = [0u32; 16];
         let mut entrants = [0u32; 16];
-        let mut registers = [0u32; state::ROUTER_SIZE * 16];
-        return tell_in(
-            state,
-            &mut told,
-            &mut entrants,
-            &mut registers,
-            delivery,
-            reasons,
-        );
+        let mut next = [0u32; state::ROUTER_SIZE * 16];
+        return tell_in(state, &mut why, &mut entrants, &mut next, delivery, reasons);
     }
     if routers <= 64 {
-        let mut told = [0u32; 64];
+        let mut why = [0u32; 64];
         let mut entrants = [0u32; 64];
-        let mut registers = [0u32; state::ROUTER_SIZE * 64];
-        return tell_in(
-            state,
-            &mut told,
-            &mut entrants,
-            &mut registers,
-            delivery,
-            reasons,
-        );
+        let mut next = [0u32; state::ROUTER_SIZE * 64];
+        return tell_in(state, &mut why, &mut entrants, &mut next, delivery, reasons);
     }
-    let mut told = [0u32; state::MOST_ROUTERS];
+    let mut why = [0u32; state::MOST_ROUTERS];
     let mut entrants = [0u32; state::MOST_ROUTERS];
-    let mut registers = [0u32; state::ROUTER_SIZE * state::MOST_ROUTERS];
-    tell_in(
-        state,
-        &mut told,
-        &mut entrants,
-        &mut registers,
-        delivery,
-        reasons,
-    )
+    let mut next = [0u32; state::ROUTER_SIZE * state::MOST_ROUTERS];
+    tell_in(state, &mut why, &mut entrants, &mut next, delivery, reasons)
 }
 
 // One cycle that also tells why each flow didn't enter, judged before it.
