@@ -1,4 +1,3 @@
 -- The laws of entry.
 pub mod Entrant
 pub mod Clients
-pub mod Tally

@@ -6,7 +6,6 @@ use mathlib.Core.Option.{Option, none, some}
 use mathlib.Core.Path.{_≡_}
 use Prim.Native.Nat.{ℕ, zero, suc, _+_, _-_, _*_, _≤_, _<_}
 use lib.ListN.{length, getD}
-use lib.Seq.{sets}
 use Rattle.laws.specs.Count.{one}
 use Rattle.laws.specs.Grid.{cellIndex}
 use Rattle.flow.specs.declared.Flow.{Flow}
@@ -15,13 +14,10 @@ use Rattle.flow.specs.Limits.{lastClock}
 use Rattle.bucket.specs.Regulator.{afterCycle}
 use Rattle.router.specs.Rule.{isOpen, entrantBelow}
 use Rattle.state.specs.declared.Tally.{Tally}
-use Rattle.state.specs.Layout.{flowPlace, numberSize}
 use Rattle.state.specs.State.{State}
-use Rattle.state.specs.Words.{tallyWords}
 use Rattle.state.specs.Facts.{StateFacts}
 use Rattle.state.specs.Read.{countIn, clockIn, stateOf}
 use Rattle.cycle.specs.Seen.{seen, view}
-use Rattle.cycle.specs.Step.{nextTally}
 
 -- the port of a flow at its client's router is open
 unfoldable pub portOpen : State → Flow → Bool
@@ -52,7 +48,3 @@ tallyAfter f t entered =
       entered = t .entered + one entered;
       waiting = t .waiting - one entered;
     }
-
--- the words l, after the tally of flow f has been written
-unfoldable pub tallied : (w : List ℕ) → (f : ℕ) → List ℕ → List ℕ
-tallied w f l = sets l (flowPlace f + numberSize) (tallyWords (nextTally (stateOf w) f))

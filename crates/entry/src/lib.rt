@@ -14,8 +14,10 @@ ghost use Rattle.flow.specs.Limits.{lastClock};
 ghost use Rattle.router.specs.Rule.{ready, isFlow};
 ghost use Rattle.state.specs.Read.{sxIn, syIn, countIn, stateOf};
 ghost use Rattle.state.specs.Facts.{StateFacts, StateFlow};
+ghost use Rattle.state.specs.Tallied.{tallied};
 ghost use Rattle.cycle.specs.Seen.{view};
-ghost use Rattle.entry.specs.Entrants.{portOpen, tallyAfter, entrantIn, Entrants, AllEntered, tallied};
+ghost use Rattle.cycle.specs.Step.{nextTally};
+ghost use Rattle.entry.specs.Entrants.{portOpen, tallyAfter, entrantIn, Entrants, AllEntered};
 
 // The flow's port at its client's router is open.
 pub fn port_open(state: &[u32], flow: Flow) -> bool
@@ -119,7 +121,7 @@ pub fn entered(entrants: &[u32], sx: u32, flow: Flow, f: u32) -> bool
 // Every flow's next tally, by the entrants of all clients.
 pub fn tally_flows(state: &mut [u32], entrants: &[u32])
     requires { ⌜ AllEntered (now state) (now entrants) ⌝ }
-    ensures { λ _. ⌜ now (state .exit) ≡ turns (countIn (now (state .entry))) (tallied (now (state .entry))) (now (state .entry)) ⌝ }
+    ensures { λ _. ⌜ now (state .exit) ≡ turns (countIn (now (state .entry))) (tallied (nextTally (stateOf (now (state .entry))))) (now (state .entry)) ⌝ }
 {
     let sx = state[state::SX];
     let flows = state[state::FLOWS];

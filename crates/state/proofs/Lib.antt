@@ -6,4 +6,5 @@ pub mod Read
 pub mod View
 pub mod Forms
 pub mod Again
+pub mod Tallied
 pub mod Formed

@@ -9,3 +9,4 @@ pub mod Reset
 pub mod Writing
 pub mod Inner
 pub mod Facts
+pub mod Tallied

@@ -19,12 +19,12 @@ use Rattle.state.specs.Read.{sxIn, syIn, countIn, clockIn, planIn, stateOf}
 use Rattle.state.specs.Outcome.{over}
 use Rattle.state.proofs.Words.{length-cell}
 use Rattle.state.specs.Facts.{StateFacts}
+use Rattle.state.specs.Tallied.{tallied}
 use Rattle.state.proofs.View.{counted}
+use Rattle.state.proofs.Tallied.{turned}
 use Rattle.state.proofs.Holds.{HoldsState, hold-same, hold-over, clock-written, registers-written}
 use Rattle.cycle.specs.Step.{nextTally, nextCell, stepState}
-use Rattle.entry.specs.Entrants.{tallied}
 use Rattle.entry.proofs.Clients.{no-entrants}
-use Rattle.entry.proofs.Tally.{turned}
 use Rattle.routing.specs.Walk.{registersIn, pushedAll}
 use Rattle.routing.proofs.Push.{pushed-cell, length-pushed}
 use Rattle.step.specs.Next.{Stepping, Room, nextWords}
@@ -56,7 +56,7 @@ module _ (w : List ℕ) (facts : StateFacts w) where
         (pushed-cell w l room x y h k)
 
     written : nextWords w (pushedAll w l)
-        ≡ sets (set (turns (countIn w) (tallied w) w) clockPlace (clockIn w + 1)) (flowPlace (length (s .plan .flows))) registers
+        ≡ sets (set (turns (countIn w) (tallied (nextTally s)) w) clockPlace (clockIn w + 1)) (flowPlace (length (s .plan .flows))) registers
     unfolding nextWords
     written = rw (counted w)
 
@@ -65,7 +65,7 @@ module _ (w : List ℕ) (facts : StateFacts w) where
     step-holds =
         rw written
         (hold-same _ _ _ _ _ _
-        (registers-written _ _ _ _ _ (clock-written _ _ _ _ _ _ (turned w facts (countIn w) (omega arith)) (clockIn w + 1) .front)
+        (registers-written _ _ _ _ _ (clock-written _ _ _ _ _ _ (turned w facts (nextTally s) (countIn w) (omega arith)) (clockIn w + 1) .front)
         (nextCell s) registers registers-length next-cell)
         (tallyAt (stepState s)) (cellAt (stepState s))
         (λ f h. getD-tabulate (length (s .plan .flows)) (nextTally s) f (freshTally 0) h ∙ rw (lt-ltb f (countIn w) (rw (counted w) at h)))

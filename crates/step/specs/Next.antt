@@ -13,9 +13,10 @@ use Rattle.state.specs.Layout.{clockPlace, flowPlace}
 use Rattle.state.specs.Words.{stateWords}
 use Rattle.state.specs.Outcome.{outcome, lent, refused, over}
 use Rattle.state.specs.Facts.{StateFacts}
+use Rattle.state.specs.Tallied.{tallied}
 use Rattle.state.specs.Read.{sxIn, syIn, countIn, clockIn, stateOf}
-use Rattle.cycle.specs.Step.{stepState, deliveries, stepOn}
-use Rattle.entry.specs.Entrants.{Entrants, tallied}
+use Rattle.cycle.specs.Step.{nextTally, stepState, deliveries, stepOn}
+use Rattle.entry.specs.Entrants.{Entrants}
 use Rattle.routing.specs.Walk.{registersIn}
 
 -- a state whose clock isn't the last, and room for an exit at each router
@@ -41,4 +42,4 @@ pub record Room (w entrants registers delivery : List ℕ) : Type 0 where
 -- the words w, with every next tally, the next clock, and these registers behind the flows
 unfoldable pub nextWords : (w registers : List ℕ) → List ℕ
 nextWords w registers =
-    sets (set (turns (countIn w) (tallied w) w) clockPlace (clockIn w + 1)) (flowPlace (countIn w)) (take (registersIn w) registers)
+    sets (set (turns (countIn w) (tallied (nextTally (stateOf w))) w) clockPlace (clockIn w + 1)) (flowPlace (countIn w)) (take (registersIn w) registers)

@@ -11,18 +11,19 @@ use Rattle.flow.specs.Plan.{flowAt}
 use Rattle.state.specs.State.{tallyAt}
 use Rattle.state.specs.Read.{countIn, stateOf}
 use Rattle.state.specs.Facts.{StateFacts}
+use Rattle.state.specs.Tallied.{tallied}
+use Rattle.state.proofs.Tallied.{turned-flow, turned-tally, turned-more}
 use Rattle.cycle.specs.Seen.{enters}
 use Rattle.cycle.specs.Step.{nextTally}
 use Rattle.cycle.proofs.Facts.{flow-ok, tally-ok}
-use Rattle.entry.specs.Entrants.{Entrants, tallied}
+use Rattle.entry.specs.Entrants.{Entrants}
 use Rattle.entry.proofs.Entrant.{enters-has, next-tally}
 use Rattle.entry.proofs.Clients.{entrant-fits, entered-found}
-use Rattle.entry.proofs.Tally.{turned-flow, turned-tally, turned-more}
 use Rattle.entry.proofs.tally_flows.Statement.{statement}
 use Rattle.entry.proofs.tally_flows.Tie as tie
 
 abbrev Inv-loop : tie.InvT-loop
-Inv-loop state₀ entrants sx flows f₀ state f = (f ≤ flows) × ((length state ≡ length state₀) × (state ≡ turns f (tallied state₀) state₀))
+Inv-loop state₀ entrants sx flows f₀ state f = (f ≤ flows) × ((length state ≡ length state₀) × (state ≡ turns f (tallied (nextTally (stateOf state₀))) state₀))
 
 abbrev μ-loop : tie.MeasureT-loop
 μ-loop state₀ entrants sx flows f₀ state f = flows - f
@@ -58,13 +59,13 @@ flow : (c : tie.After-flow-in Inv-loop μ-loop) → let p = c .before .before in
     c .flow-in .result ≡ flowAt ((stateOf (words p)) .plan) (number p)
 flow c =
     let p = c .before .before in
-    c .flow-in .ensures ∙ turned-flow _ (facts p) _ (below p) _ _ (p .before .before .loop .inv .1 .1) (p .flow-place .ensures)
+    c .flow-in .ensures ∙ turned-flow _ (facts p) _ _ (below p) _ _ (p .before .before .loop .inv .1 .1) (p .flow-place .ensures)
 
 tally : (c : tie.After-tally-in Inv-loop μ-loop) → let p = c .before .before .before .before in
     c .tally-in .result ≡ tallyAt (stateOf (words p)) (number p)
 tally c =
     let p = c .before .before .before .before in
-    c .tally-in .ensures ∙ turned-tally _ (facts p) _ (below p) _ _ (p .before .before .loop .inv .1 .1) (p .flow-place .ensures)
+    c .tally-in .ensures ∙ turned-tally _ (facts p) _ _ (below p) _ _ (p .before .before .loop .inv .1 .1) (p .flow-place .ensures)
 
 entered-requires : tie.Need-entered-requires Inv-loop μ-loop
 entered-requires c κs =
@@ -110,7 +111,7 @@ loop-again c =
     let e = put .before .before .before in
     let p = e .before .before .before .before .before in
     let old = p .before .before .loop .inv in
-    let more = turned-more _ (facts p) _ (below p) _ _ (old .1 .1) (p .flow-place .ensures) _ (next (put .before)) in
+    let more = turned-more _ (facts p) _ _ (below p) _ _ (old .1 .1) (p .flow-place .ensures) _ (next (put .before)) in
     (omega arith, (put .put-tally .kept .0 ∙ old .1 .0, put .put-tally .ensures ∙ more))
 
 returns : tie.Need-returns Inv-loop μ-loop

@@ -1,5 +1,5 @@
--- The words that the turns over the flows leave hold the state, with the next tallies of the flows passed. Rests on the laws
--- of a state's words.
+-- The words that a walk over the flows leaves hold the state, with the next tallies of the flows passed, whatever these are. Rests on
+-- the laws of a state's words.
 use mathlib.Core.Bool.{cond}
 use mathlib.Core.List.{List}
 use mathlib.Core.Logic.{_≢_}
@@ -14,30 +14,29 @@ use lib.Seq.{sets}
 use Rattle.laws.specs.Turns.{turns}
 use Rattle.laws.proofs.Turns.{turns-more}
 use Rattle.flow.specs.Plan.{flowAt}
 use Rattle.state.specs.declared.Tally.{Tally}
 use Rattle.state.specs.Layout.{flowPlace, numberSize, planSize}
 use Rattle.state.specs.State.{tallyAt, cellAt}
 use Rattle.state.specs.Words.{tallyWords}
 use Rattle.state.specs.Read.{countIn, flowIn, tallyIn, stateOf}
 use Rattle.state.specs.Facts.{StateFacts}
+use Rattle.state.specs.Tallied.{tallied}
 use Rattle.state.proofs.View.{counted}
 use Rattle.state.proofs.Read.{flow-read, tally-read}
 use Rattle.state.proofs.Holds.{Holds, hold-same, tally-written}
 use Rattle.state.proofs.Again.{state-again}
-use Rattle.cycle.specs.Step.{nextTally}
-use Rattle.entry.specs.Entrants.{tallied}
 
-module _ (w : List ℕ) (s : StateFacts w) where
+module _ (w : List ℕ) (s : StateFacts w) (next : ℕ → Tally) where
   -- the tallies after n flows
   abbrev pub talliesAfter : (n f : ℕ) → Tally
-  talliesAfter n f = cond (ltb f n) (nextTally (stateOf w) f) (tallyAt (stateOf w) f)
+  talliesAfter n f = cond (ltb f n) (next f) (tallyAt (stateOf w) f)
 
   pub turned : (n : ℕ) → n ≤ countIn w
-      → Holds ((stateOf w) .plan) ((stateOf w) .clock) (talliesAfter n) (cellAt (stateOf w)) (drop (planSize ((stateOf w) .plan)) w) (turns n (tallied w) w)
+      → Holds ((stateOf w) .plan) ((stateOf w) .clock) (talliesAfter n) (cellAt (stateOf w)) (drop (planSize ((stateOf w) .plan)) w) (turns n (tallied next) w)
   unfolding turns tallied
   turned zero h = hold-same _ _ _ _ _ _ (state-again w s) (talliesAfter 0) _ (λ f l. rw (le-ltb f 0 (omega arith))) (λ x y l k. refl)
   turned (suc n) h =
-      let now : talliesAfter (suc n) n ≡ nextTally (stateOf w) n = rw (lt-ltb n (suc n) (omega arith)) in
+      let now : talliesAfter (suc n) n ≡ next n = rw (lt-ltb n (suc n) (omega arith)) in
       rw (← now)
       (tally-written _ _ (talliesAfter n) _ _ _ (turned n (omega arith)) n (rw (counted w) h) (talliesAfter (suc n)) others)
     where
@@ -49,7 +48,7 @@ module _ (w : List ℕ) (s : StateFacts w) where
           ]
 
   -- flow f's words, before its own turn, and its turn
-  module _ (f : ℕ) (below : f < countIn w) (l : List ℕ) (at : ℕ) (now : l ≡ turns f (tallied w) w) (place : at ≡ flowPlace f) where
+  module _ (f : ℕ) (below : f < countIn w) (l : List ℕ) (at : ℕ) (now : l ≡ turns f (tallied next) w) (place : at ≡ flowPlace f) where
     pub turned-flow : flowIn l at ≡ flowAt ((stateOf w) .plan) f
     turned-flow = rw (now, place) (flow-read _ (flowPlace f) _ _ (turned f (omega arith) .front .flow f (rw (counted w) below)))
 
@@ -58,6 +57,6 @@ module _ (w : List ℕ) (s : StateFacts w) where
         rw (now, place)
         (tally-read _ (flowPlace f) _ _ (turned f (omega arith) .front .flow f (rw (counted w) below)) ∙ rw (le-ltb f f (omega arith)))
 
-    pub turned-more : (t : Tally) → t ≡ nextTally (stateOf w) f → sets l (at + numberSize) (tallyWords t) ≡ turns (f + 1) (tallied w) w
+    pub turned-more : (t : Tally) → t ≡ next f → sets l (at + numberSize) (tallyWords t) ≡ turns (f + 1) (tallied next) w
     unfolding tallied
-    turned-more t e = rw (place, e) (turns-more f (tallied w) w l now)
+    turned-more t e = rw (place, e) (turns-more f (tallied next) w l now)
