@@ -1,2 +1,3 @@
--- Laws of deliveries in groups.
+-- Laws of deliveries in groups, and of what a step delivers.
 pub mod Groups
+pub mod Genuine

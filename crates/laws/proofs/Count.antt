@@ -63,10 +63,14 @@ module _ {A : Type 0} where
   any-mem t (z ∷ l) (here e) h = rw (← e, h)
   any-mem t (z ∷ l) (there m) h = rw (any-mem t l m h) (or-true (t z))
 
-  -- a test over a tabulated list, entry by entry
+  -- a test over two lists, one after the other
+  pub any-append : (t : A → Bool) (l m : List A) → any t (l ++ m) ≡ any t l || any t m
+  any-append t [] m = refl
+  any-append t (z ∷ l) m = elim (test (t z)) [ inl h ↦ rw h | inr h ↦ rw h (any-append t l m) ]
+
+  -- over a tabulated list, entry by entry
   any-snoc : (t : A → Bool) (l : List A) (x : A) → any t (l ++ (x ∷ [])) ≡ any t l || t x
-  any-snoc t [] x = elim (test (t x)) [ inl h ↦ rw h | inr h ↦ rw h ]
-  any-snoc t (z ∷ l) x = elim (test (t z)) [ inl h ↦ rw h | inr h ↦ rw h (any-snoc t l x) ]
+  any-snoc t l x = any-append t l (x ∷ []) ∙ elim (test (t x)) [ inl h ↦ rw h | inr h ↦ rw h ]
 
   module _ (t : A → Bool) (f : ℕ → A) where
     pub any-more : (n : ℕ) → any t (tabulate n f) ≡ false → t (f n) ≡ false → any t (tabulate (n + 1) f) ≡ false

@@ -1,4 +1,4 @@
--- The engine's definitions follow the packet book; and a step keeps any state, and delivers what is genuine.
+-- The engine's definitions follow the packet book.
 pub mod View
 pub mod Outputs
 pub mod Step
@@ -7,12 +7,9 @@ pub mod Offer
 pub mod Set
 pub mod Forms
 pub mod Memory
+pub mod Steps
 pub mod Calls
 pub mod Reset
 pub mod List
 pub mod Lines
 pub mod Answers
-pub mod Carried
-pub mod Keeps
-pub mod Genuine
-pub mod Recent

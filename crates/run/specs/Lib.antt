@@ -2,4 +2,3 @@
 pub mod View
 pub mod List
 pub mod Answers
-pub mod Recent

@@ -1,5 +1,5 @@
 -- What a step delivers is genuine, whatever state it was: packets of the plan's flows, that flew as 01 says. The words that it leaves
--- are those deliveries' words (01, One cycle). Rests on Carried and Keeps.
+-- are those deliveries' words (01, One cycle). Rests on the laws of a cycle.
 use mathlib.Core.List.{List, List·Memᴰ as Mem, List·Memᴰ·head as here, List·Memᴰ·tail as there}
 use mathlib.Core.Path.{_≡_}
 use Prim.Native.Nat.{ℕ, _*_, _<_}
@@ -15,12 +15,11 @@ use Rattle.state.specs.declared.Register.{Register}
 use Rattle.state.specs.declared.Register.the-variants.{Empty, Packet}
 use Rattle.state.specs.State.{State}
 use Rattle.state.specs.Read.{stateOf}
-use Rattle.state.specs.Forms.{stateNumber}
-use Rattle.state.proofs.Formed.{StateOk, state-fits}
+use Rattle.state.proofs.Formed.{StateOk}
 use Rattle.cycle.specs.Step.{carried, leaving, delivered, deliveries, stepOn}
 use Rattle.delivery.proofs.Groups.{Genuine}
-use Rattle.run.proofs.Carried.{Carries, carried-routed}
-use Rattle.run.proofs.Keeps.{step-done}
+use Rattle.cycle.proofs.Carried.{Carries, carried-routed}
+use Rattle.cycle.proofs.Keeps.{step-done}
 
 module _ (s : State) (ok : StateOk s) (d : Delivery) where
   router-genuine : (x y : ℕ) → x < s .plan .sx → y < s .plan .sy → Mem d (delivered s x y) → Genuine (s .plan) d
@@ -33,15 +32,12 @@ module _ (s : State) (ok : StateOk s) (d : Delivery) where
           rw e (record { flow-below = h .flow-below; few = h .arrives .few; time = h .arrives .time })
       of (Packet flow serial entry deflections) h (there m) = elim m [ ]
 
-  delivery-genuine : Mem d (deliveries s) → Genuine (s .plan) d
+  pub delivery-genuine : Mem d (deliveries s) → Genuine (s .plan) d
   unfolding deliveries
   delivery-genuine m =
       let row = mem-join (s .plan .sy) _ m in
       let router = mem-join (s .plan .sx) _ (row .2) in
       router-genuine (router .0) (row .0) (router .1) (row .1) (router .2)
-
-pub delivers-genuine : (w : List ℕ) → stateNumber w ≡ 0 → (d : Delivery) → Mem d (deliveries (stateOf w)) → Genuine ((stateOf w) .plan) d
-delivers-genuine w e = delivery-genuine (stateOf w) (state-fits w e)
 
 -- the words that an accepted step's answer counts
 pub step-delivers : (w delivery : List ℕ) (n : ℕ) → (stepOn w delivery) .answer ≡ Done n

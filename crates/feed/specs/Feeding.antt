@@ -1,4 +1,4 @@
--- What feeding recent flights comes to: one by one as all at once, and always for what a step delivered (02, U1).
+-- What feeding recent flights comes to: one by one as all at once, and always for what a step, or many in one call, delivered (02, U1).
 use mathlib.Core.List.{List, [], _∷_}
 use mathlib.Core.Path.{_≡_}
 use Prim.Native.Nat.{ℕ, _*_, _≤_}
@@ -8,10 +8,11 @@ use Rattle.plan.specs.declared.Answer.the-variants.{Done}
 use Rattle.router.specs.Delivery.{Delivery, wordsOf}
 use Rattle.state.specs.Read.{planIn}
 use Rattle.cycle.specs.Step.{stepOn}
+use Rattle.cycle.specs.Steps.{stepsOn}
 use Rattle.recent.specs.declared.Recent.{Recent}
 use Rattle.recent.specs.Recent.{mostKept}
 use Rattle.delivery.specs.Groups.{groupsOf}
 use Rattle.feed.specs.Feed.{feedOn}
 
 -- the records after each delivery was fed by a call of its own, in their order
 abbrev pub inTurn : (words : List ℕ) → (last : ℕ) → List Delivery → List Recent → List Recent
@@ -41,3 +42,11 @@ EveryStep =
     (words delivery : List ℕ) (exits : ℕ) → (stepOn words delivery) .answer ≡ Done exits
     → (last : ℕ) (records : List Recent) → 1 ≤ last → last ≤ mostKept → length ((planIn words) .flows) ≤ length records
     → let left = (stepOn words delivery) .memory in (feedOn (left .state) (take (exitSize * exits) (left .other)) last records) .answer ≡ Done 0
+
+-- nor for those of many steps
+abbrev pub EverySteps : Type 0
+EverySteps =
+    (words delivery : List ℕ) (cycles exits : ℕ) → (stepsOn words delivery cycles) .answer ≡ Done exits
+    → (last : ℕ) (records : List Recent) → 1 ≤ last → last ≤ mostKept → length ((planIn words) .flows) ≤ length records
+    → let left = (stepsOn words delivery cycles) .memory in
+    (feedOn (left .state) (take (exitSize * exits) (left .other)) last records) .answer ≡ Done 0

@@ -9,9 +9,9 @@ use borrow.Author.Tests.{lt-ltb, le-leb}
 use lib.ListN.{length}
 use Rattle.laws.specs.Count.{one}
 use Rattle.laws.proofs.Cases.{and-true}
-use Rattle.laws.proofs.Bounded.{getD-tabulate}
+use Rattle.laws.proofs.Bounded.{getD-tabulate, length-tabulate}
 use Rattle.laws.proofs.Count.{one-most}
-use Rattle.laws.proofs.Grid.{getD-grid}
+use Rattle.laws.proofs.Grid.{getD-grid, length-grid}
 use Rattle.laws.proofs.Stands.{Stands, stands-first}
 use Rattle.flow.specs.declared.Flow.{Flow}
 use Rattle.flow.specs.Plan.{Plan, flowAt}
@@ -40,9 +40,10 @@ use Rattle.state.proofs.Read.{plan-read}
 use Rattle.state.proofs.View.{view-plan}
 use Rattle.state.proofs.Forms.{tally-facts}
 use Rattle.state.proofs.Formed.{registerOk, StateOk, words-form, state-fits}
 use Rattle.cycle.specs.Seen.{enters}
 use Rattle.cycle.specs.Step.{carried, nextRegister, nextCell, nextTally, stepState, deliveries, stepOn}
-use Rattle.run.proofs.Carried.{Carries, carried-routed}
+use Rattle.cycle.proofs.Offer.{Sound}
+use Rattle.cycle.proofs.Carried.{Carries, carried-routed}
 
 module _ (s : State) (ok : StateOk s) where
   abbrev p : Plan
@@ -103,6 +104,18 @@ module _ (s : State) (ok : StateOk s) where
         west-ok = λ x y l m. ap (λ (c : Cell). registerOk (stepState s) (W x y) (c .west)) (cell-after x y l m) ∙ next-register-fits (W x y) l m;
         north-ok = λ x y l m. ap (λ (c : Cell). registerOk (stepState s) (N x y) (c .north)) (cell-after x y l m) ∙ next-register-fits (N x y) l m;
       }
+
+-- with a tally for each flow and a cell for each router
+pub step-sound : (s : State) → Sound s → Sound (stepState s)
+unfolding stepState
+step-sound s sound =
+    record {
+      fits = step-fits s (sound .fits);
+      sized = record {
+        tallies-all = length-tabulate (length (s .plan .flows)) (nextTally s);
+        cells-all = length-grid (s .plan .sx) (s .plan .sy) (nextCell s);
+      };
+    }
 
 -- what a step that is not refused answers and leaves
 abbrev pub acceptedStep : (words delivery : List ℕ) → Outcome Answer Lent
