@@ -28,6 +28,18 @@ exitSize = 5
 abbrev pub roomFor : Plan → ℕ
 roomFor p = exitSize * (p .sx * p .sy)
 
+-- an answer counts so many exits at most
+abbrev pub mostExits : ℕ
+mostExits = 4294967295
+
+-- so many words of delivery memory, from its start, are all that many steps in one call use: 5×4,294,967,295
+unfoldable pub mostDelivered : ℕ
+mostDelivered = exitSize * mostExits
+
+-- what they use of so many lent words
+unfoldable pub usedRoom : (room : ℕ) → ℕ
+usedRoom room = cond (ltb room mostDelivered) room mostDelivered
+
 -- an offer's limit: so many packets of the flow already waiting, and the number of its full queue. 13: 65,535 already waiting.
 -- 02, U6: the generator "gets its own offer call, which stops at 255 waiting in that flow, by either call; the sonar's call still stops
 -- at 65,535"; "The generator's full queue is 18, checked after 12."

@@ -1,8 +1,8 @@
 -- Laws of a loop's turns, one for every loop that fills slots. Rests on specs/Turns.
-use mathlib.Core.Path.{_≡_, refl}
+use mathlib.Core.Path.{_≡_, refl, ap, _∙_}
 use mathlib.Core.Logic.{inl, inr, _≢_}
 use Prim.Native.Nat.{ℕ, zero, suc, _+_, _≤_, _<_}
-use native.Mathlib.Nat.{eq-or-lt-of-le, le-of-suc-le-suc}
+use native.Mathlib.Nat.{add-zero, add-suc, eq-or-lt-of-le, le-of-suc-le-suc}
 use native.Mathlib.Numerals.{add-one}
 use native.Mathlib.Omega.{arith}
 use Rattle.laws.specs.Turns.{turns}
@@ -23,6 +23,18 @@ module _ {A : Type 0} where
   unfolding turns
   turns-along zero step a Ok keeps ok = ok
   turns-along (suc n) step a Ok keeps ok = keeps n (omega arith) (turns-along n step a Ok (λ i l. keeps i (omega arith)) ok)
+
+  -- turns that are all alike
+  module _ (f : A → A) where
+    pub turns-add : (n k : ℕ) (a : A) → turns (n + k) (λ i. f) a ≡ turns k (λ i. f) (turns n (λ i. f) a)
+    unfolding turns
+    turns-add n zero a = rw add-zero
+    turns-add n (suc k) a = rw add-suc (ap f (turns-add n k a))
+
+    pub turns-stay : (k : ℕ) (a : A) → f a ≡ a → turns k (λ i. f) a ≡ a
+    unfolding turns
+    turns-stay zero a e = refl
+    turns-stay (suc k) a e = ap f (turns-stay k a e) ∙ e
 
   module _ (n : ℕ) (step : ℕ → A → A) (Ok : A → Type 0) (keeps : (i : ℕ) (a : A) → i < n → Ok a → Ok (step i a)) where
     -- what every turn keeps, from wherever it begins
