@@ -1,7 +1,7 @@
 -- What a walk over routers pushes and delivers, turn by turn: five words for each exit, row by row. Rests on the words of deliveries.
 use mathlib.Core.List.{List, []}
 use mathlib.Core.Path.{_≡_, refl, _∙_}
-use Prim.Native.Nat.{ℕ, zero, suc, _+_, _*_, _≤_, _<_}
+use Prim.Native.Nat.{ℕ, suc, _+_, _*_, _≤_, _<_}
 use native.Mathlib.Nat.{add-zero, mul-le-mul-left, mul-suc}
 use native.Mathlib.Numerals.{add-one}
 use native.Mathlib.Omega.{arith}
@@ -12,16 +12,13 @@ use Rattle.laws.specs.Turns.{turns}
 use Rattle.laws.proofs.Stands.{sets-append}
 use Rattle.laws.proofs.Turns.{turns-none, turns-more}
 use Rattle.flow.specs.Limits.{exitSize}
-use Rattle.router.specs.Rule.{leave}
 use Rattle.router.specs.Delivery.{Delivery, wordsOf}
 use Rattle.router.proofs.Delivery.{words-append, words-length}
-use Rattle.state.specs.declared.Register.{Register}
-use Rattle.state.specs.declared.Register.the-variants.{Empty, Packet}
-use Rattle.state.specs.State.{State}
 use Rattle.state.specs.Read.{sxIn, syIn, planIn, stateOf}
 use Rattle.state.specs.Facts.{StateFacts}
-use Rattle.cycle.specs.Step.{carried, leaving, delivered, deliveries}
+use Rattle.cycle.specs.Step.{delivered, deliveries}
 use Rattle.cycle.proofs.Facts.{cells-most}
+use Rattle.cycle.proofs.Deliveries.{row-exits, rows-exits, exits-fit}
 use Rattle.output.specs.Grid.{ExitRoom}
 use Rattle.routing.specs.Walk.{pushed, pushedRow, rowDelivers}
 
@@ -69,34 +66,17 @@ module _ (walk : Walk) (next₀ delivery₀ : List ℕ) (count : ℕ) where
     pub walked-quiet : walk .delivers n ≡ [] → done′ ≡ done → delivery′ ≡ delivery → Walked walk next₀ delivery₀ count (n + 1) next′ delivery′ done′
     walked-quiet none′ q r = walked-more (rw (none′, add-zero) q) (rw none′ r)
 
--- n turns of at most c exits
-few : (c n : ℕ) (delivers : ℕ → List Delivery) → ((i : ℕ) → length (delivers i) ≤ c) → length (joinBelow n delivers) ≤ c * n
-few c zero delivers h = omega arith
-few c (suc n) delivers h = omega (arith, few c n delivers h, h n, length-append (joinBelow n delivers) (delivers n))
-
--- a router delivers one packet at most
-delivered-most : (s : State) (x y : ℕ) → length (delivered s x y) ≤ 1
-unfolding delivered
-delivered-most s x y = most (carried s x y leave)
-  where
-    most : (r : Register) → length (leaving (s .clock) r) ≤ 1
-    most Empty = omega arith
-    most (Packet flow serial entry deflections) = omega arith
-
 module _ (w : List ℕ) where
   -- the routers of row y
   abbrev pub rowWalk : (y : ℕ) → Walk
   rowWalk y = record { pushes = λ x. pushed w x y; delivers = λ x. delivered (stateOf w) x y }
-
-  row-most : (y n : ℕ) → length (joinBelow n (rowWalk y .delivers)) ≤ n
-  row-most y n = omega (arith, few 1 n (rowWalk y .delivers) (λ x. delivered-most (stateOf w) x y))
 
   -- one more has room
   pub row-room : (y count n : ℕ) (next₀ delivery₀ next delivery : List ℕ) (done : ℕ)
       → Walked (rowWalk y) next₀ delivery₀ count n next delivery done → ExitRoom count (sxIn w) delivery₀ → n < sxIn w → ExitRoom done 1 delivery
   row-room y count n next₀ delivery₀ next delivery done walked room h =
       let long = walked-long (rowWalk y) next₀ delivery₀ count walked in
-      let most = row-most y n in
+      let most = row-exits (stateOf w) y n in
       record { few = omega (arith, walked .done-is, room .few); room = omega (arith, walked .done-is, room .room) }
 
   -- all rows
@@ -104,8 +84,8 @@ module _ (w : List ℕ) where
   allWalk = record { pushes = pushedRow w; delivers = rowDelivers w }
 
   all-most : (n : ℕ) → length (joinBelow n (rowDelivers w)) ≤ sxIn w * n
-  unfolding rowDelivers
-  all-most n = few (sxIn w) n (rowDelivers w) (λ y. row-most y (sxIn w))
+  unfolding rowDelivers stateOf planIn
+  all-most n = rows-exits (stateOf w) n
 
   -- one more has room
   pub all-room : StateFacts w → (n : ℕ) (next₀ delivery₀ next delivery : List ℕ) (done : ℕ)
@@ -124,4 +104,5 @@ module _ (w : List ℕ) where
 
   -- their words fit where 10 isn't refused
   pub delivers-fit : length (wordsOf (deliveries (stateOf w))) ≤ exitSize * (sxIn w * syIn w)
-  delivers-fit = rw (← all-delivered) (omega (arith, words-length (joinBelow (syIn w) (rowDelivers w)), all-most (syIn w)))
+  unfolding stateOf planIn
+  delivers-fit = exits-fit (stateOf w)
