@@ -2,6 +2,7 @@
 ghost use mathlib.Core.Path.{_≡_};
 ghost use Prim.Native.Nat.{_+_, _<_, _≤_};
 ghost use Rattle.bucket.specs.Regulator.{afterSpend, afterCount, bucketFits};
+ghost use Rattle.bucket.specs.Passed.{afterCycles};
 ghost use Rattle.bucket.specs.Curve.{curve};
 
 pub struct Bucket {
@@ -38,6 +39,26 @@ impl Bucket {
         Bucket {
             tokens: self.tokens,
             count: next,
+        }
+    }
+
+    // The bucket after k cycles without an entry.
+    pub fn pass(self, burst: u32, period: u32, k: u32) -> Bucket
+        requires { ⌜ 1 ≤ period ⌝ }
+        ensures { λ r. ⌜ r ≡ afterCycles burst period k self ⌝ }
+    {
+        let ran = (self.count as u64) + (k as u64);
+        let tokens = (self.tokens as u64) + ran / (period as u64);
+        let count = (ran % (period as u64)) as u32;
+        if tokens < (burst as u64) {
+            return Bucket {
+                tokens: tokens as u32,
+                count,
+            };
+        }
+        Bucket {
+            tokens: burst,
+            count,
         }
     }
 
