@@ -1,0 +1,2 @@
+-- Cycles in which nothing moves and nobody enters.
+pub mod Leap
