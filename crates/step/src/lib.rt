@@ -101,13 +101,13 @@ fn advance(state: &mut [u32], delivery: &mut [u32]) -> u32
     advance_in(state, &mut entrants, &mut registers, delivery)
 }
 
-// The refusal of a step after the state's own, or 0.
-fn step_number(state: &[u32], delivery: &[u32]) -> u32
+// The refusal of a step after the state's own, or 0, with so many words of delivery memory.
+pub fn step_number(state: &[u32], room: usize) -> u32
     requires { ⌜ StateFacts (now state) ⌝ }
-    ensures { λ r. ⌜ r ≡ stepNumber ((stateOf (now (state .entry))) .plan) (length (now (delivery .entry))) ((stateOf (now (state .entry))) .clock) ⌝ }
+    ensures { λ r. ⌜ r ≡ stepNumber ((stateOf (now (state .entry))) .plan) room ((stateOf (now (state .entry))) .clock) ⌝ }
 {
     let routers = (state[state::SX] * state[state::SY]) as usize;
-    if delivery.len() < cycle::EXIT_SIZE * routers {
+    if room < cycle::EXIT_SIZE * routers {
         return 10;
     }
     if state[state::CLOCK] == state::LAST_CLOCK {
@@ -124,7 +124,7 @@ pub fn refusal(state: &[u32], delivery: &[u32]) -> u32
     if number != 0 {
         return number;
     }
-    step_number(state, delivery)
+    step_number(state, delivery.len())
 }
 
 // One cycle of the torus: the count of exits, or the refusal.

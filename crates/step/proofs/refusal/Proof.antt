@@ -1,17 +1,14 @@
 -- `refusal`: the state's number or the step's; what 0 leaves.
-use mathlib.Core.Bool.{cond}
 use mathlib.Core.List.{List}
 use mathlib.Core.Logic.{_≢_}
 use mathlib.Core.Path.{_≡_, refl, sym, _∙_}
-use Prim.Native.Nat.{ℕ, _+_, _*_, _<_}
+use Prim.Native.Nat.{ℕ, _+_, _<_}
 use borrow.Author.Needs.{needs}
-use borrow.Author.Tests.{ltb-false, eqb-false}
 use native.Mathlib.Omega.{arith}
-use lib.Dec.{ltb, eqb}
 use lib.ListN.{length}
-use Rattle.laws.proofs.Cases.{passed}
-use Rattle.flow.specs.Limits.{lastClock, exitSize, stepNumber}
-use Rattle.state.specs.Read.{sxIn, syIn, clockIn, planIn, stateOf}
+use Rattle.flow.specs.Limits.{lastClock, stepNumber}
+use Rattle.flow.proofs.Limits.{step-passes}
+use Rattle.state.specs.Read.{clockIn, planIn, stateOf}
 use Rattle.state.specs.Forms.{stateNumber}
 use Rattle.state.proofs.Forms.{state-facts}
 use Rattle.state.proofs.Over.{unless-passes, unless-refuses}
@@ -23,11 +20,11 @@ use Rattle.step.proofs.refusal.Tie as tie
 -- what 10 and 11 leave: room for every router's exit, and a clock that can go on
 room : (w delivery : List ℕ) → stepNumber ((stateOf w) .plan) (length delivery) ((stateOf w) .clock) ≡ 0 → clockIn w < lastClock + 1
     → stateNumber w ≡ 0 → Stepping w delivery
-unfolding stepNumber stateOf planIn
+unfolding stateOf planIn
 room w delivery e fits formed =
-    let first = passed (ltb (length delivery) (exitSize * (sxIn w * syIn w))) 9 (cond (eqb (clockIn w) lastClock) 11 0) e in
-    let other : clockIn w ≢ lastClock = eqb-false (clockIn w) lastClock (passed (eqb (clockIn w) lastClock) 10 0 (first .1) .0) in
-    record { facts = state-facts w formed; clock-below = omega arith; delivery-fits = ltb-false _ _ (first .0) }
+    let passes = step-passes ((stateOf w) .plan) (length delivery) ((stateOf w) .clock) e in
+    let other : clockIn w ≢ lastClock = passes .clock-other in
+    record { facts = state-facts w formed; clock-below = omega arith; delivery-fits = passes .room-fits }
 
 -- a state's number, other than 0
 by-state : (w delivery : List ℕ) (n : ℕ) → n ≡ stateNumber w → (n ≡ 0 → ⊥) → Judged w delivery n

@@ -1,0 +1,2 @@
+-- What many steps ask for and keep, turn by turn.
+pub mod Loop
