@@ -1,7 +1,7 @@
 -- Each call on state memory that holds the words of a book: its answer and all memory lent are the book's. Rests on Memory,
--- Offer, Set, Step and Delivery.
+-- Offer, Set, Step, Steps and Delivery.
 use mathlib.Core.List.{List, []}
-use mathlib.Core.Path.{_≡_, refl}
+use mathlib.Core.Path.{_≡_, refl, ap, _∙_}
 use Prim.Native.Nat.{ℕ, zero, suc}
 use lib.ListN.{length}
 use Rattle.flow.specs.declared.Offerer.{Offerer}
@@ -13,7 +13,7 @@ use Rattle.flow.specs.Limits.{offerNumber, stepNumber}
 use Rattle.flow.proofs.Limits.{offer-passes}
 use Rattle.book.specs.Feed.{Fed, judged, feed, refusal}
 use Rattle.book.specs.Feed as Feed
-use Rattle.book.proofs.Kept.{Kept}
+use Rattle.book.proofs.Kept.{Kept, many-reply}
 use Rattle.plan.specs.declared.Answer.{Answer}
 use Rattle.plan.specs.declared.Answer.the-variants.{Done, Refused}
 use Rattle.plan.specs.Refusals.{answerBy, refusedOr}
@@ -25,14 +25,17 @@ use Rattle.state.specs.Writing.{bytesOn, writeOn}
 use Rattle.cycle.specs.Offer.{offerState, offerOn}
 use Rattle.cycle.specs.Set.{withFirst, offerSetOn}
 use Rattle.cycle.specs.Step.{stepState, deliveries, stepOn}
+use Rattle.cycle.specs.Steps.{stepsOn}
 use Rattle.cycle.specs.Reasons.{Telling, telling, wordsOn, stepReasonsOn}
+use Rattle.cycle.proofs.Steps.{steps-refused}
 use Rattle.recent.specs.declared.Recent.{Recent}
 use Rattle.feed.specs.Feed.{plannedOn, feedOn}
 use Rattle.run.specs.View.{bookState}
-use Rattle.run.specs.List.{withReasons, justWords, justRecords, whole, offer, offerSet, step, stepReasons, write, recent, onWords, filled}
+use Rattle.run.specs.List.{withReasons, justWords, justRecords, whole, offer, offerSet, step, stepReasons, steps, write, recent, onWords, filled}
 use Rattle.run.proofs.View.{reasons-agree}
 use Rattle.run.proofs.Step.{step-follows}
 use Rattle.run.proofs.Delivery.{deliveries-follow}
+use Rattle.run.proofs.Steps.{many-done}
 use Rattle.run.proofs.Offer.{offer-number, offer-follows}
 use Rattle.run.proofs.Set.{bookAnswer, set-follows, set-answer}
 use Rattle.run.proofs.Memory.{image, state-is, plan-is, image-again, number}
@@ -121,6 +124,27 @@ module _ (p : Plan) (b : Book) (k : Kept p b) (tail : List ℕ) where
   reasons-on delivery reasons =
       rw (step-is delivery, state-is p b tail, list-number (length reasons))
       (reasons-by delivery reasons (stepNumber p (length delivery) (b .clock)) (listNumber p (length reasons)))
+
+  -- many steps: by the number of a step at their start
+  step-does : (delivery : List ℕ) (n : ℕ) → stepNumber p (length delivery) (b .clock) ≡ n → stepOn w delivery ≡ stepBy delivery n
+  step-does delivery n e = step-is delivery ∙ rw e
+
+  steps-by : (delivery : List ℕ) (cycles n : ℕ) → stepNumber p (length delivery) (b .clock) ≡ n
+      → let now : Fed = judged p b (Feed.steps (length delivery) cycles) (answerBy n 0) in
+      let o : Outcome Answer Lent = stepsOn w delivery cycles in
+      outcome (o .answer) (whole (o .memory .state) (justWords (o .memory .other)))
+      ≡ outcome (now .reply) (whole (image p (now .book) tail) (filled now (justWords delivery)))
+  unfolding unless
+  steps-by delivery cycles zero e =
+      let done = many-done p b k w (state-is p b tail) delivery cycles _ (ap (λ (o : Outcome Answer Lent). o .answer) (step-does delivery 0 e)) in
+      let reply = many-reply p b (length delivery) cycles in
+      rw (← done, image-again p b tail, reply .0, reply .1)
+  steps-by delivery cycles (suc n) e = rw (steps-refused w delivery cycles (suc n) (step-does delivery (suc n) e))
+
+  pub steps-on : (delivery : List ℕ) (cycles : ℕ) → let now : Fed = feed p b (Feed.steps (length delivery) cycles) in
+      onWords (steps delivery cycles) w ≡ outcome (now .reply) (whole (image p (now .book) tail) (filled now (justWords delivery)))
+  unfolding feed refusal
+  steps-on delivery cycles = steps-by delivery cycles (stepNumber p (length delivery) (b .clock)) refl
 
   pub write-on : (notes target : List ℕ) → let o : Outcome Answer (List ℕ) = bytesOn (planBytes notes p) target in
       onWords (write notes target) w ≡ outcome (o .answer) (whole w (justWords (o .memory)))

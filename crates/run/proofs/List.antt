@@ -20,9 +20,9 @@ use Rattle.book.specs.Book.{Book, start}
 use Rattle.router.specs.Delivery.{wordsOf}
 use Rattle.router.proofs.Delivery.{words-append, words-length}
 use Rattle.book.specs.Cycle.{deliveries}
-use Rattle.book.specs.Feed.{Call, Fed, feed, Run, runFrom, run}
+use Rattle.book.specs.Feed.{Call, Fed, ranMany, feed, Run, runFrom, run}
 use Rattle.book.specs.Feed as Feed
-use Rattle.book.proofs.Kept.{Kept, feed-cases, kept-start, kept-feed, kept-run}
+use Rattle.book.proofs.Kept.{Kept, many-reply, feed-cases, kept-start, kept-feed, kept-run}
 use Rattle.book.proofs.Promises.{promises}
 use Rattle.state.specs.State.{resetState}
 use Rattle.state.specs.Words.{stateWords}
@@ -37,8 +37,9 @@ use Rattle.cycle.specs.Offer.{offerOn}
 use Rattle.cycle.specs.Set.{offerSetOn}
 use Rattle.cycle.specs.Step.{stepOn}
 use Rattle.cycle.specs.Reasons.{stepReasonsOn}
+use Rattle.cycle.specs.Steps.{stepsOn}
 use Rattle.feed.specs.Feed.{feedOn}
-use Rattle.run.specs.List.{Beside, justWords, Whole, whole, Asked, offer, offerSet, step, stepReasons, write, recent, reset, onWords}
+use Rattle.run.specs.List.{Beside, justWords, Whole, whole, Asked, offer, offerSet, step, stepReasons, steps, write, recent, reset, onWords}
 use Rattle.run.specs.List.{Item, onMemory, memoryAfter}
 use Rattle.run.specs.List.{Role, feeds, between, resets, role, tooLittle, roleIn}
 use Rattle.run.specs.List.{IsList, fedAs, fed, beside, outcomes, bookMemory, due, expected}
@@ -46,7 +47,7 @@ use Rattle.run.specs.List.{Follows, EveryList}
 use Rattle.run.specs.View.{bookState}
 use Rattle.run.proofs.Offer.{start-follows}
 use Rattle.run.proofs.Memory.{image, image-part, image-rest, number, short}
-use Rattle.run.proofs.Calls.{offer-on, set-on, step-on, reasons-on, write-on, recent-on}
+use Rattle.run.proofs.Calls.{offer-on, set-on, step-on, reasons-on, steps-on, write-on, recent-on}
 use Rattle.run.proofs.Reset.{reset-refused}
 
 -- the outcomes of the fed calls, in order
@@ -75,7 +76,13 @@ fed-words p b c other =
     (λ (now : Fed). take (wordCount (now .reply)) (over (wordsOf (now .delivered)) other) ≡ wordsOf (now .delivered))
     (λ n place. refl) (λ who f room. refl) (λ flows rooms. refl)
     (λ reasons early. take-at (wordsOf (deliveries p b)) _ (5 * length (deliveries p b)) (words-length (deliveries p b)))
+    (λ room cycles. many room cycles)
     c
+  where
+    many : (room cycles : ℕ) → let now : Fed = ranMany p b room cycles in
+        take (wordCount (now .reply)) (over (wordsOf (now .delivered)) other) ≡ wordsOf (now .delivered)
+    many room cycles =
+        rw (many-reply p b room cycles .0) (take-at (wordsOf (ranMany p b room cycles .delivered)) _ _ (words-length (ranMany p b room cycles .delivered)))
 
 module _ (p : Plan) (words : List ℕ) where
   abbrev tail : List ℕ
@@ -133,17 +140,21 @@ module _ (p : Plan) (words : List ℕ) where
       does-enough (stepReasons delivery reasons) h may =
           enough (feed p b (Feed.stepReasons (length delivery) (length reasons)) .book) (item (stepReasons delivery reasons)) _ _ h
           (λ t. reasons-on p b k t delivery reasons)
+      does-enough (steps delivery cycles) h may =
+          enough (feed p b (Feed.steps (length delivery) cycles) .book) (item (steps delivery cycles)) _ _ h
+          (λ t. steps-on p b k t delivery cycles)
       does-enough (write notes target) h may = enough b (item (write notes target)) _ _ h (λ t. write-on p b k t notes target)
       does-enough (recent deliveries last records) h may =
           enough b (item (recent deliveries last records)) _ _ h (λ t. recent-on p b k t deliveries last records)
       does-enough (reset file) h may = does-reset file may
 
       does-little : (c : Asked) → n < planSize p → May c → Does (item c) (tooLittle (role c))
-      unfolding offerOn offerSetOn stepOn stepReasonsOn writeOn feedOn unless unlessRefused
+      unfolding offerOn offerSetOn stepOn stepReasonsOn stepsOn writeOn feedOn unless unlessRefused
       does-little (offer who f) few may = unchanged m (item (offer who f)) _ _ (rw (short p b tail k n few))
       does-little (offerSet flows) few may = unchanged m (item (offerSet flows)) _ _ (rw (short p b tail k n few))
       does-little (step delivery) few may = unchanged m (item (step delivery)) _ _ (rw (short p b tail k n few))
       does-little (stepReasons delivery reasons) few may = unchanged m (item (stepReasons delivery reasons)) _ _ (rw (short p b tail k n few))
+      does-little (steps delivery cycles) few may = unchanged m (item (steps delivery cycles)) _ _ (rw (short p b tail k n few))
       does-little (write notes target) few may = unchanged m (item (write notes target)) _ _ (rw (short p b tail k n few))
       does-little (recent deliveries last records) few may = unchanged m (item (recent deliveries last records)) _ _ (rw (short p b tail k n few))
       does-little (reset file) few may = does-reset file may

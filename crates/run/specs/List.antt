@@ -21,7 +21,7 @@ use Rattle.book.specs.Feed as Feed
 use Rattle.book.specs.Promises.{Promises}
 use Rattle.state.specs.Words.{stateWords}
 use Rattle.state.specs.Forms.{stateNumber}
-use Rattle.state.specs.Outcome.{Outcome, outcome, refused, over}
+use Rattle.state.specs.Outcome.{Outcome, outcome, Lent, refused, over}
 use Rattle.state.specs.Layout.{planSize}
 use Rattle.state.specs.Reset.{resetOn}
 use Rattle.state.specs.Writing.{bytesOn, writeOn}
@@ -29,6 +29,7 @@ use Rattle.cycle.specs.Offer.{offerOn}
 use Rattle.cycle.specs.Set.{offerSetOn}
 use Rattle.cycle.specs.Step.{stepOn}
 use Rattle.cycle.specs.Reasons.{Telling, stepReasonsOn}
+use Rattle.cycle.specs.Steps.{stepsOn}
 use Rattle.recent.specs.declared.Recent.{Recent}
 use Rattle.feed.specs.Feed.{plannedOn, feedOn}
 use Rattle.run.specs.View.{bookState}
@@ -63,6 +64,7 @@ pub data Asked : Type 0 where
   offerSet : (flows : List ℕ) → Asked
   step : (delivery : List ℕ) → Asked
   stepReasons : (delivery reasons : List ℕ) → Asked
+  steps : (delivery : List ℕ) → (cycles : ℕ) → Asked
   write : (notes target : List ℕ) → Asked
   recent : (deliveries : List ℕ) → (last : ℕ) → (records : List Recent) → Asked
   reset : (file : List ℕ) → Asked
@@ -76,6 +78,9 @@ onWords (step delivery) words =
 onWords (stepReasons delivery reasons) words =
     let o : Outcome Answer Telling = stepReasonsOn words delivery reasons in
     outcome (o .answer) (whole (o .memory .step .state) (withReasons (o .memory .step .other) (o .memory .reasons)))
+onWords (steps delivery cycles) words =
+    let o : Outcome Answer Lent = stepsOn words delivery cycles in
+    outcome (o .answer) (whole (o .memory .state) (justWords (o .memory .other)))
 onWords (write notes target) words = outcome ((writeOn words notes target) .answer) (whole words (justWords ((writeOn words notes target) .memory)))
 onWords (recent deliveries last records) words =
     outcome ((feedOn words deliveries last records) .answer) (whole words (justRecords ((feedOn words deliveries last records) .memory)))
@@ -116,6 +121,7 @@ role (offer who flow) = feeds (Feed.offer who flow) (justWords [])
 role (offerSet flows) = feeds (Feed.offerSet flows) (justWords [])
 role (step delivery) = feeds (Feed.step (length delivery)) (justWords delivery)
 role (stepReasons delivery reasons) = feeds (Feed.stepReasons (length delivery) (length reasons)) (withReasons delivery reasons)
+role (steps delivery cycles) = feeds (Feed.steps (length delivery) cycles) (justWords delivery)
 role (write notes target) = between (λ p b. toWords (bytesOn (planBytes notes p) target)) (justWords target)
 role (recent deliveries last records) = between (λ p b. toRecords (plannedOn p deliveries last records)) (justRecords records)
 role (reset file) = resets
