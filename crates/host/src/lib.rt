@@ -1,4 +1,4 @@
-// The C interface, declared in include/hrt.h: thin, over the calls of plan, bounds, reset, writing, offer, offers, step, telling and feed.
+// The C interface, declared in include/hrt.h: thin, over the calls of plan, bounds, reset, writing, offer, offers, step, steps, telling and feed.
 use flow::Offerer;
 use plan::Answer;
 use recent::Recent;
@@ -13,6 +13,7 @@ ghost use Rattle.state.specs.Writing.{writeOn};
 ghost use Rattle.cycle.specs.Offer.{offerOn};
 ghost use Rattle.cycle.specs.Set.{offerSetOn};
 ghost use Rattle.cycle.specs.Step.{stepOn};
+ghost use Rattle.cycle.specs.Steps.{stepsOn};
 ghost use Rattle.cycle.specs.Reasons.{telling, stepReasonsOn};
 ghost use Rattle.feed.specs.Feed.{feedOn};
 
@@ -110,6 +111,14 @@ pub extern "C" fn hrt_step(state: &mut [u32], delivery: &mut [u32]) -> u64
     ensures { λ r. ⌜ outcome r (lent (now (state .exit)) (now (delivery .exit))) ≡ inWords (stepOn (now (state .entry)) (now (delivery .entry))) ⌝ }
 {
     answer_word(step::step(state, delivery))
+}
+
+// So many cycles, each step delivering behind the last, and all their exits.
+#[no_mangle]
+pub extern "C" fn hrt_steps(state: &mut [u32], delivery: &mut [u32], cycles: u32) -> u64
+    ensures { λ r. ⌜ outcome r (lent (now (state .exit)) (now (delivery .exit))) ≡ inWords (stepsOn (now (state .entry)) (now (delivery .entry)) cycles) ⌝ }
+{
+    answer_word(steps::steps(state, delivery, cycles))
 }
 
 // One cycle, its exits, and why each flow didn't enter.
