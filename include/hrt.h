@@ -1,12 +1,12 @@
 /* The C interface of Kimboryu. Link with target/staticlib/libhost.a (rt staticlib host).
  *
  * Memory is lent as a pointer and a count of its elements. The pointer is not null, even for a count of 0.
- * Memories lent to one call don't overlap: hrt_reset's plan and state, hrt_step's state and delivery, hrt_step_reasons' state,
- * delivery and reasons, hrt_recent's records and its state or deliveries, hrt_write's target and its state or notes,
+ * Memories lent to one call don't overlap: hrt_reset's plan and state, hrt_step's and hrt_steps' state and delivery,
+ * hrt_step_reasons' state, delivery and reasons, hrt_recent's records and its state or deliveries, hrt_write's target and its state or notes,
  * hrt_offer_set's state and flows lie apart. Only what is merely read may overlap, as hrt_write's state and notes.
  * The functions have no memory of their own. Calls may run at once, in several threads, if what one of them writes is lent to
- * no other: all may read one plan, and a state is in one hrt_reset, hrt_offer, hrt_offer_trial, hrt_offer_set, hrt_step or
- * hrt_step_reasons at a time.
+ * no other: all may read one plan, and a state is in one hrt_reset, hrt_offer, hrt_offer_trial, hrt_offer_set, hrt_step,
+ * hrt_steps or hrt_step_reasons at a time.
  *
  * A refused call changes nothing that was lent to it.
  * hrt_window answers the window T, 1 to 65,535, or 65,536 + the refusal number.
@@ -83,6 +83,13 @@ uint64_t hrt_offer_set(uint32_t *state, size_t state_words, const uint32_t *flow
 /* One cycle. Answers the number of exits, for each of which it delivers five words: flow, serial, entry cycle, exit cycle,
  * deflections. The delivery memory has at least HRT_DELIVERY_WORDS(Sx, Sy) words. */
 uint64_t hrt_step(uint32_t *state, size_t state_words, uint32_t *delivery, size_t delivery_words);
+
+/* So many cycles in one call: as that many hrt_step, one after the other, each delivering behind the last. Answers the number
+ * of all exits, and the state's clock tells how many steps ran: it ends early before a step for which the delivery memory left
+ * is too short, under HRT_DELIVERY_WORDS(Sx, Sy) words, and at HRT_LAST_CLOCK. It is refused as hrt_step would be at its start,
+ * for 0 cycles too, which otherwise change nothing. It uses at most the first 5 * 4,294,967,295 words of the delivery memory,
+ * so that its answer fits. Cycles in which nothing can move take hardly any time. */
+uint64_t hrt_steps(uint32_t *state, size_t state_words, uint32_t *delivery, size_t delivery_words, uint32_t cycles);
 
 /* As hrt_step, and also writes a word for each flow, flow n's at place n: an HRT_REASON_. Words after the last flow stay. Fewer
  * words than flows are refused with 19, after 11. */

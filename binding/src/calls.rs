@@ -32,6 +32,13 @@ mod raw {
             delivery: *mut u32,
             delivery_words: usize,
         ) -> u64;
+        pub fn hrt_steps(
+            state: *mut u32,
+            state_words: usize,
+            delivery: *mut u32,
+            delivery_words: usize,
+            cycles: u32,
+        ) -> u64;
         pub fn hrt_step_reasons(
             state: *mut u32,
             state_words: usize,
@@ -107,6 +114,14 @@ pub fn offer_set(state: &mut [u32], flows: &[u32]) -> u64 {
 pub fn step(state: &mut [u32], delivery: &mut [u32]) -> u64 {
     let (words, room) = (state.len(), delivery.len());
     unsafe { raw::hrt_step(state.as_mut_ptr(), words, delivery.as_mut_ptr(), room) }
+}
+
+/// So many cycles, each delivering behind the last, as far as the delivery memory and the clock go.
+/// Answers the number of all exits.
+#[inline]
+pub fn steps(state: &mut [u32], delivery: &mut [u32], cycles: u32) -> u64 {
+    let (words, room) = (state.len(), delivery.len());
+    unsafe { raw::hrt_steps(state.as_mut_ptr(), words, delivery.as_mut_ptr(), room, cycles) }
 }
 
 /// One cycle, which also writes a word for each flow: why it didn't enter, 1 to 5, or 0 if it did.

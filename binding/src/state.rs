@@ -52,14 +52,25 @@ pub struct Packet {
     pub deflections: u32,
 }
 
-/// A state, with room for what a step delivers.
-#[derive(Clone, Debug, PartialEq, Eq)]
+/// For how many exits of each router [`State::steps`] has room.
+const STEPS_ROOM: usize = 16;
+
+/// A state, with room for what a step delivers, or many of them. States are equal if their words are.
+#[derive(Clone, Debug)]
 pub struct State {
     words: Vec<u32>,
     delivery: Vec<u32>,
-    /// How many words the last step delivered; none if it was refused.
+    /// How many words the last step, or the last steps in one call, delivered; none if it was refused.
     delivered: usize,
 }
+
+impl PartialEq for State {
+    fn eq(&self, other: &State) -> bool {
+        self.words == other.words
+    }
+}
+
+impl Eq for State {}
 
 impl State {
     /// The state of a plan file at clock 0. Refusals 1 to 7.
@@ -130,6 +141,23 @@ impl State {
         self.deliver(answer)
     }
 
+    /// So many [steps](State::step) in one call: the packets that leave, step by step. It ends early
+    /// where its room for deliveries is used up, after one step at least, and at the last clock:
+    /// [`State::clock`] tells how many ran. Cycles in which nothing can move take hardly any time.
+    /// Refusal 11.
+    #[inline]
+    pub fn steps(
+        &mut self,
+        cycles: u32,
+    ) -> Result<impl ExactSizeIterator<Item = Delivery> + '_, Refusal> {
+        let room = STEPS_ROOM * delivery_words(self.sx(), self.sy());
+        if self.delivery.len() < room {
+            self.delivery.resize(room, 0);
+        }
+        let answer = calls::steps(&mut self.words, &mut self.delivery, cycles);
+        self.deliver(answer)
+    }
+
     /// A [step](State::step) that also writes a word for each flow: whether it entered or why it
     /// didn't, a [`Reason`](crate::Reason). Words after the last flow stay. Refusals 11, and 19 with
     /// fewer words than flows.
@@ -161,7 +189,7 @@ impl State {
         }))
     }
 
-    /// Feeds what the last step delivered to records, one for each flow, which then hold the flow's
+    /// Feeds what the last step, or the last steps in one call, delivered to records, one for each flow, which then hold the flow's
     /// last deliveries, at most `last` of them. Refusals 16 and 17.
     #[inline]
     pub fn recent(&self, records: &mut [Recent], last: u32) -> Answer {
