@@ -1,6 +1,6 @@
 -- Laws of a loop's turns, one for every loop that fills slots. Rests on specs/Turns.
 use mathlib.Core.Path.{_≡_, refl, ap, _∙_}
-use mathlib.Core.Logic.{inl, inr, _≢_}
+use mathlib.Core.Logic.{inl, inr}
 use Prim.Native.Nat.{ℕ, zero, suc, _+_, _≤_, _<_}
 use native.Mathlib.Nat.{add-zero, add-suc, eq-or-lt-of-le, le-of-suc-le-suc}
 use native.Mathlib.Numerals.{add-one}
@@ -36,21 +36,22 @@ module _ {A : Type 0} where
     turns-stay zero a e = refl
     turns-stay (suc k) a e = ap f (turns-stay k a e) ∙ e
 
-  module _ (n : ℕ) (step : ℕ → A → A) (Ok : A → Type 0) (keeps : (i : ℕ) (a : A) → i < n → Ok a → Ok (step i a)) where
-    -- what every turn keeps, from wherever it begins
-    pub turns-keep : (m : ℕ) (a : A) → m ≤ n → Ok a → Ok (turns m step a)
-    turns-keep m a l ok = turns-along m step a Ok (λ i h. keeps i (turns i step a) (omega arith)) ok
+  -- what every turn keeps, from wherever it begins
+  pub turns-keep : (n : ℕ) (step : ℕ → A → A) (Ok : A → Type 0) → ((i : ℕ) (a : A) → i < n → Ok a → Ok (step i a))
+      → (m : ℕ) (a : A) → m ≤ n → Ok a → Ok (turns m step a)
+  turns-keep n step Ok keeps m a l ok = turns-along m step a Ok (λ i h. keeps i (turns i step a) (omega arith)) ok
 
-    -- turn i fills slot i and leaves every other slot: after all turns each slot is filled
-    pub turns-fill : (Holds : ℕ → A → Type 0)
-        → ((i : ℕ) (a : A) → i < n → Ok a → Holds i (step i a))
-        → ((i k : ℕ) (a : A) → i < n → k < n → k ≢ i → Ok a → Holds k a → Holds k (step i a))
-        → (m : ℕ) (a : A) → m ≤ n → Ok a → (k : ℕ) → k < m → Holds k (turns m step a)
-    unfolding turns
-    turns-fill Holds fills others zero a l ok k h = absurd (omega arith)
-    turns-fill Holds fills others (suc m) a l ok k h =
-        let now = turns-keep m a (omega arith) ok in
-        elim (eq-or-lt-of-le (le-of-suc-le-suc h)) [
-          | inl same ↦ rw same (fills m (turns m step a) l now)
-          | inr below ↦ others m k (turns m step a) l (omega arith) (λ e. omega arith) now (turns-fill Holds fills others m a (omega arith) ok k below)
-        ]
+  -- turn i fills slot i, and no later turn empties it: after all turns each slot is filled
+  pub turns-fill : (n : ℕ) (step : ℕ → A → A) (a : A) (Holds : ℕ → A → Type 0)
+      → ((i : ℕ) → i < n → Holds i (step i (turns i step a)))
+      → ((i k : ℕ) → i < n → k < i → Holds k (turns i step a) → Holds k (step i (turns i step a)))
+      → (k : ℕ) → k < n → Holds k (turns n step a)
+  unfolding turns
+  turns-fill zero step a Holds fills stays k h = absurd (omega arith)
+  turns-fill (suc n) step a Holds fills stays k h =
+      elim (eq-or-lt-of-le (le-of-suc-le-suc h)) [
+        | inl same ↦ rw same (fills n (omega arith))
+        | inr below ↦
+            let before = turns-fill n step a Holds (λ i l. fills i (omega arith)) (λ i k l. stays i k (omega arith)) k below in
+            stays n k (omega arith) below before
+      ]

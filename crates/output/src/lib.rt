@@ -44,15 +44,6 @@ pub fn push_south(grid: Grid, x: u32, y: u32, south: Register, next: &mut [u32])
     );
 }
 
-// An idle router empties its neighbours' next registers.
-pub fn pass_idle(grid: Grid, x: u32, y: u32, next: &mut [u32])
-    requires { ⌜ (OnGrid grid x y) × (registersOf grid ≤ length (now next)) ⌝ }
-    ensures { λ _. ⌜ now (next .exit) ≡ push grid x y South Empty (push grid x y East Empty (now (next .entry))) ⌝ }
-{
-    push_east(grid, x, y, Register::Empty, next);
-    push_south(grid, x, y, Register::Empty, next);
-}
-
 // What is left of a packet that goes S.
 pub fn unless_exits(exits: bool, south: Register) -> Register
     ensures { λ r. ⌜ r ≡ cond exits Empty south ⌝ }

@@ -20,7 +20,7 @@ use Rattle.cycle.specs.Step.{delivered, deliveries}
 use Rattle.cycle.proofs.Facts.{cells-most}
 use Rattle.cycle.proofs.Deliveries.{row-exits, rows-exits, exits-fit}
 use Rattle.output.specs.Grid.{ExitRoom}
-use Rattle.routing.specs.Walk.{pushed, pushedRow, rowDelivers}
+use Rattle.routing.specs.Walk.{passed, pushedRow, rowDelivers}
 
 -- a walk whose turn i pushes registers into the next words and delivers
 pub record Walk : Type 0 where
@@ -69,7 +69,7 @@ module _ (walk : Walk) (next₀ delivery₀ : List ℕ) (count : ℕ) where
 module _ (w : List ℕ) where
   -- the routers of row y
   abbrev pub rowWalk : (y : ℕ) → Walk
-  rowWalk y = record { pushes = λ x. pushed w x y; delivers = λ x. delivered (stateOf w) x y }
+  rowWalk y = record { pushes = λ x. passed w x y; delivers = λ x. delivered (stateOf w) x y }
 
   -- one more has room
   pub row-room : (y count n : ℕ) (next₀ delivery₀ next delivery : List ℕ) (done : ℕ)

@@ -1,12 +1,11 @@
 -- A router with no packet sends none and delivers none. Rests on specs/Sent.
-use mathlib.Core.Bool.{true, _&&_, false≢true}
+use mathlib.Core.Bool.{true, false, _&&_, false≢true}
 use mathlib.Core.List.{List, []}
 use mathlib.Core.Option.{Option, none, some}
 use mathlib.Core.Path.{_≡_, refl}
 use Prim.Native.Nat.{ℕ}
 use Rattle.laws.proofs.Cases.{and-true}
-use Rattle.flow.specs.declared.Port.the-variants.{East, South}
-use Rattle.router.specs.Rule.{Way, via, leave, takes, entrant}
+use Rattle.router.specs.Rule.{Way, leave, takes, entrant}
 use Rattle.state.specs.declared.Register.{Register}
 use Rattle.state.specs.declared.Register.the-variants.{Empty, Packet}
 use Rattle.state.specs.State.{State, cellAt}
@@ -14,10 +13,8 @@ use Rattle.state.specs.Read.{stateOf}
 use Rattle.cycle.specs.Seen.{view}
 use Rattle.cycle.specs.Sent.{isEmpty}
 use Rattle.cycle.specs.Step.{sendsBy, sentBy, carried, delivered}
-use Rattle.output.specs.declared.Grid.{Grid}
 use Rattle.routing.specs.Sent.{isNone, isIdle}
-use Rattle.output.specs.Grid.{push}
-use Rattle.routing.specs.Walk.{gridIn, pushed}
+use Rattle.routing.specs.Walk.{pushed, passed}
 
 module _ (s : State) (x y : ℕ) (idle : isIdle s x y ≡ true) where
   empty : (r : Register) → isEmpty r ≡ true → r ≡ Empty
@@ -35,7 +32,7 @@ module _ (s : State) (x y : ℕ) (idle : isIdle s x y ≡ true) where
       let one = and-true (isNone (entrant (s .plan) (view s) x y)) (isEmpty ((cellAt s x y) .west)) (two .0) in
       (nobody _ (one .0), (empty _ (one .1), empty _ (two .1)))
 
-  idle-carries : (o : Way) → carried s x y o ≡ Empty
+  pub idle-carries : (o : Way) → carried s x y o ≡ Empty
   unfolding carried sentBy takes sendsBy
   idle-carries o = rw (parts .0, parts .1 .0, parts .1 .1)
 
@@ -44,8 +41,12 @@ module _ (s : State) (x y : ℕ) (idle : isIdle s x y ≡ true) where
   unfolding delivered
   idle-delivers = rw (idle-carries leave)
 
--- and empties its neighbours' next registers
-pub idle-pushed : (w : List ℕ) (g : Grid) → g ≡ gridIn w → (x y : ℕ) → isIdle (stateOf w) x y ≡ true → (l : List ℕ)
-    → push g x y South Empty (push g x y East Empty l) ≡ pushed w x y l
-unfolding pushed
-idle-pushed w g e x y idle l = rw (e, idle-carries (stateOf w) x y idle (via East), idle-carries (stateOf w) x y idle (via South))
+module _ (w : List ℕ) (x y : ℕ) (l : List ℕ) where
+  -- it writes nothing, and any other writes what it sends
+  pub passed-idle : isIdle (stateOf w) x y ≡ true → passed w x y l ≡ l
+  unfolding passed
+  passed-idle e = rw e
+
+  pub passed-busy : isIdle (stateOf w) x y ≡ false → passed w x y l ≡ pushed w x y l
+  unfolding passed
+  passed-busy e = rw e

@@ -1,4 +1,5 @@
 -- What the walk over the routers leaves. Only promises of inner functions name these; proofs/ ties them to the definitions of Step.
+use mathlib.Core.Bool.{cond}
 use mathlib.Core.List.{List}
 use mathlib.Core.Path.{_≡_}
 use Prim.Native.Nat.{ℕ, _<_}
@@ -14,6 +15,7 @@ use Rattle.cycle.specs.Step.{carried, delivered}
 use Rattle.entry.specs.Entrants.{AllEntered}
 use Rattle.output.specs.declared.Grid.{Grid}
 use Rattle.output.specs.Grid.{registersOf, push}
+use Rattle.routing.specs.Sent.{isIdle}
 
 -- the grid of a state's routers
 abbrev pub gridIn : (w : List ℕ) → Grid
@@ -29,9 +31,13 @@ pushed w x y l =
     let s = stateOf w in
     push (gridIn w) x y South (carried s x y (via South)) (push (gridIn w) x y East (carried s x y (via East)) l)
 
+-- an idle router writes nothing: the registers that it would empty are empty
+unfoldable pub passed : (w : List ℕ) → (x y : ℕ) → List ℕ → List ℕ
+passed w x y l = cond (isIdle (stateOf w) x y) l (pushed w x y l)
+
 -- after a row's routers, and after all
 unfoldable pub pushedRow : (w : List ℕ) → (y : ℕ) → List ℕ → List ℕ
-pushedRow w y l = turns (sxIn w) (λ x. pushed w x y) l
+pushedRow w y l = turns (sxIn w) (λ x. passed w x y) l
 
 unfoldable pub pushedAll : (w : List ℕ) → List ℕ → List ℕ
 pushedAll w l = turns (syIn w) (pushedRow w) l

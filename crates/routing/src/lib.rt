@@ -155,9 +155,7 @@ fn route_row(
 {
     let mut done = count;
     for x in 0..grid.sx {
-        if is_idle(state, grid, x, y, entrants) {
-            output::pass_idle(grid, x, y, next);
-        } else {
+        if !is_idle(state, grid, x, y, entrants) {
             done = route(state, grid, x, y, entrants, next, delivery, done);
         }
     }

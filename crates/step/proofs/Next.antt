@@ -5,7 +5,7 @@ use mathlib.Core.Path.{_≡_, _∙_}
 use Prim.Native.Nat.{ℕ, _+_, _*_, _≤_, _<_}
 use native.Mathlib.Omega.{arith}
 use borrow.Author.Tests.{lt-ltb}
-use lib.ListN.{length, set, take, drop, replicate, length-replicate}
+use lib.ListN.{length, getD, set, take, drop, replicate, length-replicate, getD-replicate}
 use lib.Seq.{sets, length-take-le}
 use Rattle.laws.specs.Grid.{cellIndex}
 use Rattle.laws.specs.Turns.{turns}
@@ -33,14 +33,19 @@ use Rattle.step.specs.Next.{Stepping, Room, nextWords}
 pub room-for : (w delivery : List ℕ) (n : ℕ) → Stepping w delivery → sxIn w * syIn w ≤ n
     → Room w (replicate n 0) (replicate (routerSize * n) 0) delivery
 room-for w delivery n s few =
-    record { stepping = s; registers-fit = rw length-replicate (omega arith); no-entrants = no-entrants w n few }
+    record {
+      stepping = s;
+      registers-fit = rw length-replicate (omega arith);
+      registers-clear = λ i h. getD-replicate (routerSize * n) i 0 0 (omega arith);
+      no-entrants = no-entrants w n few;
+    }
 
 module _ (w : List ℕ) (facts : StateFacts w) where
   abbrev s : State
   s = stateOf w
 
   -- a step: the next tallies, the next clock, and the registers that the walk leaves in l
-  module _ (l : List ℕ) (room : registersIn w ≤ length l) where
+  module _ (l : List ℕ) (room : registersIn w ≤ length l) (clear : (i : ℕ) → i < registersIn w → getD l i 0 ≡ 0) where
     abbrev registers : List ℕ
     registers = take (registersIn w) (pushedAll w l)
 
@@ -53,7 +58,7 @@ module _ (w : List ℕ) (facts : StateFacts w) where
     next-cell : (x y : ℕ) → x < sxIn w → y < syIn w → Stands 0 registers (routerSize * cellIndex (sxIn w) x y) (cellWords (nextCell s x y))
     next-cell x y h k =
         stands-take 0 (pushedAll w l) (registersIn w) _ _ enough (omega (arith, cell-below (sxIn w) (syIn w) x y h k, length-cell (nextCell s x y)))
-        (pushed-cell w l room x y h k)
+        (pushed-cell w l room clear x y h k)
 
     written : nextWords w (pushedAll w l)
         ≡ sets (set (turns (countIn w) (tallied (nextTally s)) w) clockPlace (clockIn w + 1)) (flowPlace (length (s .plan .flows))) registers

@@ -3,7 +3,7 @@
 use mathlib.Core.List.{List}
 use mathlib.Core.Path.{_≡_}
 use Prim.Native.Nat.{ℕ, _+_, _*_, _≤_, _<_}
-use lib.ListN.{length, set, take}
+use lib.ListN.{length, getD, set, take}
 use lib.Seq.{sets}
 use Rattle.laws.specs.Turns.{turns}
 use Rattle.flow.specs.Limits.{lastClock, exitSize}
@@ -33,10 +33,11 @@ pub record Judged (w delivery : List ℕ) (number : ℕ) : Type 0 where
       stepOn w delivery
       ≡ outcome (Done (length (deliveries s))) (lent (over (stateWords (stepState s)) w) (over (wordsOf (deliveries s)) delivery))
 
--- with room for the entrants, of which there are none yet, and for the next registers
+-- with room for the entrants, of which there are none yet, and for the next registers, which are cleared
 pub record Room (w entrants registers delivery : List ℕ) : Type 0 where
   pub stepping : Stepping w delivery
   pub registers-fit : registersIn w ≤ length registers
+  pub registers-clear : (i : ℕ) → i < registersIn w → getD registers i 0 ≡ 0
   pub no-entrants : Entrants (stateOf w) 0 entrants
 
 -- the words w, with every next tally, the next clock, and these registers behind the flows

@@ -37,11 +37,11 @@ module _ (w d : List ℕ) (exits : ℕ) (f : FreeBehind w d exits) where
   pub behind-fits : exitSize * (exits + length (deliveries (stateOf w))) ≤ length d
   behind-fits = omega (arith, passes .room-fits, exits-fit (stateOf w), words-length (deliveries (stateOf w)), f .behind .fits)
 
-  -- it has room, with cleared entrants
-  pub behind-room : clockIn w < lastClock + 1 → (entrants cleared registers : List ℕ) → Rooms w entrants registers → length cleared ≡ length entrants
-      → AllZero cleared → Room w cleared registers (drop (exitSize * exits) d)
+  -- it has room, which is cleared
+  pub behind-room : clockIn w < lastClock + 1 → (e g e′ g′ : List ℕ) → Rooms w e g → length e′ ≡ length e → AllZero e′ → length g′ ≡ length g → AllZero g′
+      → Room w e′ g′ (drop (exitSize * exits) d)
   unfolding stateOf planIn
-  behind-room l entrants cleared registers rooms long zeros =
+  behind-room l e g e′ g′ rooms le ze lg zg =
       let other : clockIn w ≢ lastClock = passes .clock-other in
       let fits = rooms .entrants-fit in
       record {
@@ -50,8 +50,9 @@ module _ (w d : List ℕ) (exits : ℕ) (f : FreeBehind w d exits) where
           clock-below = omega arith;
           delivery-fits = rw (length-drop (exitSize * exits) d) (passes .room-fits);
         };
-        registers-fit = rooms .registers-fit;
-        no-entrants = entrants-none (stateOf w) cleared (omega arith) (λ i h. zeros i (omega arith));
+        registers-fit = rw lg (rooms .registers-fit);
+        registers-clear = λ i h. zg i (omega (arith, lg, rooms .registers-fit));
+        no-entrants = entrants-none (stateOf w) e′ (omega arith) (λ i h. ze i (omega arith));
       }
 
 -- room for n routers is enough for a torus with no more

@@ -55,6 +55,7 @@ fn step_behind(
     ensures { λ _. ⌜ now (delivery .exit) ≡ take (exitSize * exits) (now (delivery .entry)) ++ over (wordsOf (deliveries (stateOf (now (state .entry))))) (drop (exitSize * exits) (now (delivery .entry))) ⌝ }
 {
     clear(entrants);
+    clear(registers);
     step::advance_in(
         state,
         entrants,

@@ -4,10 +4,11 @@ use mathlib.Core.Path.{_≡_, sym, ap, _∙_}
 use Prim.Native.Nat.{_≤_, _<_, _-_}
 use native.Mathlib.Omega.{arith}
 use lib.ListN.{length}
+use Rattle.laws.proofs.Cases.{told-not, told-not′}
 use Rattle.state.specs.Read.{sxIn}
 use Rattle.routing.specs.Walk.{pushedRow, rowDelivers}
-use Rattle.routing.proofs.OnGrid.{column, on-grid}
-use Rattle.routing.proofs.Idle.{idle-delivers, idle-pushed}
+use Rattle.routing.proofs.OnGrid.{column}
+use Rattle.routing.proofs.Idle.{idle-delivers, passed-idle, passed-busy}
 use Rattle.routing.proofs.Exits.{Walked, walked-none, walked-more, walked-quiet, walked-long, rowWalk, row-room}
 use Rattle.routing.proofs.route_row.Statement.{statement}
 use Rattle.routing.proofs.route_row.Tie as tie
@@ -31,12 +32,6 @@ is-idle-requires c κs =
     let p = c .before .before .before .before .before .before .pre in
     (p .0, (below c, p .1 .0))
 
-pass-idle-requires : tie.Need-pass-idle-requires Inv-loop μ-loop
-pass-idle-requires c κs =
-    let turn = c .before .before .before in
-    let p = turn .before .before .before .before .before .before .pre in
-    (on-grid _ _ _ (p .0) _ _ (below turn) (p .1 .0), rw (p .0 .grid) (omega (arith, p .1 .1 .0, turn .before .loop .inv .1 .next-long)))
-
 route-requires : tie.Need-route-requires Inv-loop μ-loop
 route-requires c κs =
     let turn = c .before .before .before .before in
@@ -48,20 +43,20 @@ loop-again : tie.Need-loop-again Inv-loop μ-loop
 loop-again c =
     let turn = c .before .before in
     let walked = turn .before .loop .inv .1 in
-    let grid = turn .before .before .before .before .before .before .pre .0 .grid in
     elim (c .if1 .came) [
       | inl w ↦ (
         omega arith,
-        let idle = sym (c .before .is-idle .ensures) ∙ w .0 .taken in
-            let next = w .5 ∙ w .2 .ensures ∙ idle-pushed _ _ grid _ _ idle _ in
-            let long = ap length (w .5) ∙ w .2 .kept .1 .1 .1 .0 in
-            walked-quiet _ _ _ _ _ _ _ _ walked _ _ _ next long (idle-delivers _ _ _ idle) (w .7) (w .6),
+        let busy = told-not (c .before .is-idle .ensures) (w .0 .taken) in
+            let sent = w .3 .ensures in
+            let next = w .8 ∙ sent .0 ∙ sym (passed-busy _ _ _ _ busy) in
+            let long = ap length (w .8) ∙ w .3 .kept .1 .1 .1 .1 .1 .0 in
+            walked-more _ _ _ _ _ _ _ _ walked _ _ _ next long (w .10 ∙ sent .1 .0) (w .9 ∙ sent .1 .1),
       )
       | inr w ↦ (
         omega arith,
-        let sent = w .3 .ensures in
-            let long = ap length (w .8) ∙ w .3 .kept .1 .1 .1 .1 .1 .0 in
-            walked-more _ _ _ _ _ _ _ _ walked _ _ _ (w .8 ∙ sent .0) long (w .10 ∙ sent .1 .0) (w .9 ∙ sent .1 .1),
+        let idle = told-not′ (c .before .is-idle .ensures) (w .0 .left) in
+            let next = w .1 ∙ sym (passed-idle _ _ _ _ idle) in
+            walked-quiet _ _ _ _ _ _ _ _ walked _ _ _ next (ap length (w .1)) (idle-delivers _ _ _ idle) (w .3) (w .2),
       )
     ]
 
@@ -76,5 +71,5 @@ returns c =
 
 pub route-row-spec : {M : Type 1} → statement M
 route-row-spec =
-    tie.close (tie.spec Inv-loop μ-loop loop-holds is-idle-requires pass-idle-requires route-requires (λ c. omega arith) (λ c. omega arith) loop-again
+    tie.close (tie.spec Inv-loop μ-loop loop-holds is-idle-requires route-requires (λ c. omega arith) (λ c. omega arith) loop-again
     (λ c. c .before .loop .inv .1 .next-long) (λ c. walked-long _ _ _ _ (c .before .loop .inv .1)) returns)

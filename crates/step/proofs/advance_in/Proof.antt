@@ -33,7 +33,7 @@ returns c =
     let w = start .args .state .now in
     let room = start .pre in
     let all = found .find-next .ensures in (
-      stored .store-next .ensures ∙ rw (all .1 .0) (next-over w (room .stepping .facts) _ (room .registers-fit)),
+      stored .store-next .ensures ∙ rw (all .1 .0) (next-over w (room .stepping .facts) _ (room .registers-fit) (room .registers-clear)),
       (
         all .1 .1 .0,
         all .1 .1 .1 ∙ over-sets (wordsOf (deliveries (stateOf w))) (start .args .delivery .now) (le-trans (delivers-fit w) (room .stepping .delivery-fits)),
