@@ -1,6 +1,7 @@
 // One walk over the routers: next registers, deliveries and their count. Rests on cycle and entry.
 use flow::Port;
 use output::Grid;
+use state::Cell;
 use state::Register;
 ghost use mathlib.Core.Path.{_≡_};
 ghost use mathlib.Core.Bool.{false};
@@ -10,6 +11,7 @@ ghost use lib.Seq.{sets};
 ghost use Rattle.flow.specs.Limits.{lastClock, exitSize};
 ghost use Rattle.router.specs.Rule.{entrant};
 ghost use Rattle.router.specs.Delivery.{wordsOf};
+ghost use Rattle.state.specs.State.{cellAt};
 ghost use Rattle.state.specs.Read.{sxIn, syIn, countIn, clockIn, stateOf};
 ghost use Rattle.state.specs.Facts.{StateFacts};
 ghost use Rattle.cycle.specs.Seen.{view};
@@ -17,7 +19,7 @@ ghost use Rattle.cycle.specs.Step.{delivered, deliveries};
 ghost use Rattle.entry.specs.Entrants.{entrantIn, Entrants, AllEntered};
 ghost use Rattle.routing.specs.Sent.{clientSends, sentAt, isIdle};
 ghost use Rattle.output.specs.Grid.{ExitRoom};
-ghost use Rattle.routing.specs.Walk.{registersIn, pushed, pushedRow, pushedAll, rowDelivers, AtRouter, Walking};
+ghost use Rattle.routing.specs.Walk.{gridIn, registersIn, pushed, pushedRow, pushedAll, rowDelivers, AtRouter, Walking};
 
 // What is sent by the two outputs of a router.
 struct Sent {
@@ -60,13 +62,23 @@ fn client_sends(state: &[u32], who: u32) -> Sent
     }
 }
 
-// What the router in column x and row y sends, by who enters there.
-fn router_sends(state: &[u32], x: u32, y: u32, who: u32) -> Sent
+// The registers of the router in column x and row y, by the sizes that the walk has at hand.
+fn cell_on(state: &[u32], grid: Grid, x: u32, y: u32) -> Cell
     requires { ⌜ AtRouter (now state) x y ⌝ }
+    requires { ⌜ grid ≡ gridIn (now state) ⌝ }
+    ensures { λ r. ⌜ r ≡ cellAt (stateOf (now (state .entry))) x y ⌝ }
+{
+    state::cell_in(state, state::router_place(grid.flows, grid.sx, x, y))
+}
+
+// What the router in column x and row y sends, by who enters there.
+fn router_sends(state: &[u32], grid: Grid, x: u32, y: u32, who: u32) -> Sent
+    requires { ⌜ AtRouter (now state) x y ⌝ }
+    requires { ⌜ grid ≡ gridIn (now state) ⌝ }
     requires { ⌜ entrantIn who ≡ entrant ((stateOf (now state)) .plan) (view (stateOf (now state))) x y ⌝ }
     ensures { λ r. ⌜ r ≡ sentAt (stateOf (now (state .entry))) x y ⌝ }
 {
-    let cell = cycle::cell_at(state, x, y);
+    let cell = cell_on(state, grid, x, y);
     let west = cell.west;
     let north = cell.north;
     let turning = cycle::turns_south(state, x, west);
@@ -79,13 +91,14 @@ fn router_sends(state: &[u32], x: u32, y: u32, who: u32) -> Sent
 }
 
 // What the router in column x and row y sends, with the entrants of all clients.
-fn sent_at(state: &[u32], x: u32, y: u32, entrants: &[u32]) -> Sent
+fn sent_at(state: &[u32], grid: Grid, x: u32, y: u32, entrants: &[u32]) -> Sent
     requires { ⌜ AtRouter (now state) x y ⌝ }
+    requires { ⌜ grid ≡ gridIn (now state) ⌝ }
     requires { ⌜ Entrants (stateOf (now state)) (countIn (now state)) (now entrants) ⌝ }
     ensures { λ r. ⌜ r ≡ sentAt (stateOf (now (state .entry))) x y ⌝ }
 {
-    let client = state::router_index(state[state::SX], x, y);
-    router_sends(state, x, y, entrants[client])
+    let client = state::router_index(grid.sx, x, y);
+    router_sends(state, grid, x, y, entrants[client])
 }
 
 // No packet stands at the router in column x and row y, nor enters there.
@@ -98,7 +111,7 @@ fn is_idle(state: &[u32], grid: Grid, x: u32, y: u32, entrants: &[u32]) -> bool
     if entrants[router] != 0 {
         return false;
     }
-    let cell = state::cell_in(state, state::router_place(grid.flows, grid.sx, x, y));
+    let cell = cell_on(state, grid, x, y);
     let west = cell.west;
     if !cycle::is_empty(west) {
         return false;
@@ -126,7 +139,7 @@ fn route(
     ensures { λ r. ⌜ r ≡ count + length (delivered (stateOf (now (state .entry))) x y) ⌝ }
     ensures { λ _. ⌜ now (delivery .exit) ≡ sets (now (delivery .entry)) (exitSize * count) (wordsOf (delivered (stateOf (now (state .entry))) x y)) ⌝ }
 {
-    let sent = sent_at(state, x, y, entrants);
+    let sent = sent_at(state, grid, x, y, entrants);
     let east = sent.east;
     let south = sent.south;
     let exits = cycle::exits(state, x, y, south);

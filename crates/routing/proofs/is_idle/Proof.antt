@@ -10,14 +10,12 @@ use lib.ListN.{getD}
 use Rattle.laws.specs.Grid.{cellIndex}
 use Rattle.laws.proofs.Cases.{told-not, told-not′}
 use Rattle.router.specs.Rule.{entrant}
-use Rattle.state.specs.State.{cellAt}
-use Rattle.state.specs.Read.{sxIn, routerIn, stateOf}
-use Rattle.state.proofs.View.{view-cell}
+use Rattle.state.specs.Read.{sxIn, stateOf}
 use Rattle.cycle.specs.Seen.{view}
-use Rattle.cycle.proofs.Facts.{router-fits}
 use Rattle.entry.specs.Entrants.{entrantIn}
 use Rattle.entry.proofs.Clients.{entrant-fits, entrant-all}
 use Rattle.routing.specs.Sent.{isNone}
+use Rattle.routing.proofs.OnGrid.{at-router}
 use Rattle.routing.proofs.is_idle.Statement.{statement}
 use Rattle.routing.proofs.is_idle.Tie as tie
 
@@ -50,49 +48,30 @@ found c =
     let p = c .before .before .before .pre in
     rw (index c) (ap isNone (sym (entrant-all _ (p .0 .entered .facts) _ (p .0 .entered .all-entrants) _ _ (p .1 .0) (p .1 .1))) ∙ nobody _)
 
--- where its registers stand
-place : (c : tie.After-router-place) → let a = c .before .before .before .before .before .before .args in
-    c .router-place .result ≡ routerIn (a .state .now) (a .x) (a .y)
-place c = c .router-place .ensures ∙ rw (c .before .before .before .before .before .before .pre .0 .grid)
-
-router-place-requires : tie.Need-router-place-requires
-router-place-requires c κs =
+cell-on-requires : tie.Need-cell-on-requires
+cell-on-requires c κs =
     let p = c .before .before .before .before .before .pre in
-    let sizes = p .0 .entered .facts .header in
-    rw (p .0 .grid) (omega arith)
-
-cell-in-requires : tie.Need-cell-in-requires
-cell-in-requires c κs =
-    let p = c .before .before .before .before .before .before .pre in
-    rw (place c) (router-fits _ (p .0 .entered .facts) _ _ (p .1 .0) (p .1 .1))
-
--- its registers
-cell : (c : tie.After-cell-in) → let at = c .before .before .before .before in let a = at .before .before .before .args in
-    cellAt (stateOf (a .state .now)) (a .x) (a .y) ≡ c .cell-in .result
-cell c =
-    let at = c .before .before .before .before in
-    let p = at .before .before .before .pre in
-    view-cell _ _ _ (p .1 .0) (p .1 .1) ∙ sym (c .cell-in .ensures ∙ rw (place (c .before)))
+    (at-router _ _ _ (p .0) _ _ (p .1 .0) (p .1 .1), p .0 .grid)
 
 returns : tie.Need-returns
 returns c = rw (found (c .before .before), ne-eqb _ _ (c .if1 .taken))
 
 -- nobody enters
-unentered : (c : tie.After-cell-in) → let at = c .before .before .before .before in let a = at .before .before .before .args in
+unentered : (c : tie.After-cell-on) → let at = c .before .before .before in let a = at .before .before .before .args in
     let s = stateOf (a .state .now) in isNone (entrant (s .plan) (view s) (a .x) (a .y)) ≡ true
-unentered c = found (c .before .before .before .before) ∙ eq-eqb _ _ (c .before .before .if1 .left)
+unentered c = found (c .before .before .before) ∙ eq-eqb _ _ (c .before .if1 .left)
 
 returns-2 : tie.Need-returns-2
 returns-2 c =
     let at = c .before .before in
-    rw (unentered at, cell at, told-not (c .before .is-empty .ensures) (c .if2 .taken))
+    rw (unentered at, ← (at .cell-on .ensures), told-not (c .before .is-empty .ensures) (c .if2 .taken))
 
 returns-3 : tie.Need-returns-3
 returns-3 c =
     let at = c .before .before .before in
-    rw (unentered at, cell at, told-not′ (c .before .before .is-empty .ensures) (c .before .if2 .left)) (c .is-empty2 .ensures)
+    rw (unentered at, ← (at .cell-on .ensures), told-not′ (c .before .before .is-empty .ensures) (c .before .if2 .left)) (c .is-empty2 .ensures)
 
 pub is-idle-spec : {M : Type 1} → statement M
 is-idle-spec =
-    tie.close (tie.spec router-index-requires (λ c. search needs) shared-slice-read-if1 returns
-    router-place-requires cell-in-requires (λ c κs. search needs) returns-2 (λ c κs. search needs) returns-3)
+    tie.close (tie.spec router-index-requires (λ c. search needs) shared-slice-read-if1 returns cell-on-requires (λ c κs. search needs) returns-2
+    (λ c κs. search needs) returns-3)

@@ -19,7 +19,7 @@ use Rattle.routing.proofs.route.Tie as tie
 sent-at-requires : tie.Need-sent-at-requires
 sent-at-requires c κs =
     let p = c .before .before .before .before .pre in
-    (at-router _ _ _ (p .0) _ _ (p .1 .0 .0) (p .1 .0 .1), p .0 .entered .all-entrants)
+    (at-router _ _ _ (p .0) _ _ (p .1 .0 .0) (p .1 .0 .1), (p .0 .grid, p .0 .entered .all-entrants))
 
 -- the router is the state's, and on the grid
 here : (c : tie.After-sent-at) → let a = c .before .before .before .before .before .args in AtRouter (a .state .now) (a .x) (a .y)

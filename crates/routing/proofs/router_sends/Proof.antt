@@ -26,17 +26,17 @@ sent-is s x y who e = rw e
 turns-south-requires : tie.Need-turns-south-requires
 turns-south-requires c κs =
     let p = c .before .before .pre .0 .router in
-    record { facts = p .facts; flow-below = rw (c .cell-at .ensures) (west-flow _ (p .facts) _ _ (p .column) (p .row)) }
+    record { facts = p .facts; flow-below = rw (c .cell-on .ensures) (west-flow _ (p .facts) _ _ (p .column) (p .row)) }
 
 client-sends-requires : tie.Need-client-sends-requires
 client-sends-requires c κs =
     let p = c .before .before .before .pre in
-    (p .0 .router .facts, (entrant-most _ (p .0 .router .facts) _ _ _ (p .1), p .0 .clock-below))
+    (p .0 .router .facts, (entrant-most _ (p .0 .router .facts) _ _ _ (p .1 .1), p .0 .clock-below))
 
 sent-east-requires : tie.Need-sent-east-requires
 sent-east-requires c κs =
     let p = c .before .before .before .before .pre .0 .router in
-    rw (c .before .before .cell-at .ensures) (north-deflections _ (p .facts) _ _ (p .column) (p .row))
+    rw (c .before .before .cell-on .ensures) (north-deflections _ (p .facts) _ _ (p .column) (p .row))
 
 returns : tie.Need-returns
 returns c =
@@ -46,11 +46,11 @@ returns c =
       c .before .sent-east .ensures,
       client .client-sends .ensures,
       client .before .turns-south .ensures,
-      client .before .before .cell-at .ensures,
+      client .before .before .cell-on .ensures,
     )
-    (sent-is _ _ _ _ (client .before .before .before .before .pre .1))
+    (sent-is _ _ _ _ (client .before .before .before .before .pre .1 .1))
 
 pub router-sends-spec : {M : Type 1} → statement M
 router-sends-spec =
-    tie.close (tie.spec (λ c κs. c .before .pre .0 .router) turns-south-requires client-sends-requires sent-east-requires
+    tie.close (tie.spec (λ c κs. let p = c .before .pre in (p .0, p .1 .0)) turns-south-requires client-sends-requires sent-east-requires
     (λ c κs. search needs) returns)
