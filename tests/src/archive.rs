@@ -42,6 +42,10 @@ impl Engine for Archive {
         calls::step(state, delivery)
     }
 
+    fn steps(&self, state: &mut [u32], delivery: &mut [u32], cycles: u32) -> u64 {
+        calls::steps(state, delivery, cycles)
+    }
+
     fn step_reasons(&self, state: &mut [u32], delivery: &mut [u32], reasons: &mut [u32]) -> u64 {
         calls::step_reasons(state, delivery, reasons)
     }

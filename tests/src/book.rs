@@ -1,5 +1,5 @@
 //! The packet book, by 01's "The packet book" and "One cycle": one line per accepted packet. Its offers
-//! are in `offers`, the step that tells reasons in `reasons`.
+//! are in `offers`, the step that tells reasons in `reasons`, many steps in one call in `steps`.
 //! The lines are the truth; what else the book keeps (which lines wait, which have a place, how
 //! many have entered) is an index of them, for speed, checked against the lines in `promises`.
 
@@ -96,18 +96,24 @@ impl Book {
 
     /// A step that is lent this many words of delivery memory: its exits, in order.
     pub fn step(&mut self, delivery_words: usize) -> Result<Vec<Delivery>, Refusal> {
-        if delivery_words < 5 * self.plan.routers() {
-            return refuse(10, 0);
-        }
-        if self.clock == LAST_CLOCK {
-            return refuse(11, 0);
-        }
+        self.may_step(delivery_words)?;
         let old = self.lines_by_place();
         let mut exits = self.move_lines(&old);
         self.enter_lines(&old, &mut exits);
         self.clock += 1;
         exits.sort();
         Ok(exits.into_iter().map(|(_, line)| self.delivery(line)).collect())
+    }
+
+    /// The refusals of a step that is lent this many words of delivery memory.
+    pub fn may_step(&self, delivery_words: usize) -> Result<(), Refusal> {
+        if delivery_words < 5 * self.plan.routers() {
+            return refuse(10, 0);
+        }
+        if self.clock == LAST_CLOCK {
+            return refuse(11, 0);
+        }
+        Ok(())
     }
 
     fn delivery(&self, line: usize) -> Delivery {

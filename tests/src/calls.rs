@@ -1,6 +1,6 @@
 //! Each call as 01 or 02 states it, on lent memory: what it answers and what the memory is afterwards.
 
-use crate::book::Book;
+use crate::book::{Book, Delivery};
 use crate::plan::{MOST_BYTES, RECORD, Refusal, TRAILER, read, refuse};
 use crate::recent::{self, Record};
 use crate::state::{judge, words};
@@ -55,21 +55,35 @@ pub fn offer_set(memory: &mut [u32], flows: &[u32]) -> Answer {
     change(memory, |book| book.offer_set(flows))
 }
 
-/// Step: 8 and 9, then 10, 11.
-pub fn step(memory: &mut [u32], delivery: &mut [u32]) -> Answer {
-    let exits = change(memory, |book| book.step(delivery.len()))?.concat();
+/// A form of step, which writes its exits over the front of the delivery memory and answers their count.
+fn deliver(
+    memory: &mut [u32],
+    delivery: &mut [u32],
+    step: impl FnOnce(&mut Book, usize) -> Result<Vec<Delivery>, Refusal>,
+) -> Answer {
+    let room = delivery.len();
+    let exits = change(memory, |book| step(book, room))?.concat();
     delivery[..exits.len()].copy_from_slice(&exits);
     Ok(exits.len() as u64 / 5)
 }
 
+/// Step: 8 and 9, then 10, 11.
+pub fn step(memory: &mut [u32], delivery: &mut [u32]) -> Answer {
+    deliver(memory, delivery, |book, room| book.step(room))
+}
+
+/// Many steps: 8 and 9, then 10, 11, for no cycle too.
+pub fn steps(memory: &mut [u32], delivery: &mut [u32], cycles: u32) -> Answer {
+    deliver(memory, delivery, |book, room| book.steps(room, cycles))
+}
+
 /// A step with reasons: 8 and 9, then 10, 11, 19.
 pub fn step_reasons(memory: &mut [u32], delivery: &mut [u32], reasons: &mut [u32]) -> Answer {
-    let (room, told) = (delivery.len(), reasons.len());
-    let (exits, why) = change(memory, |book| book.step_reasons(room, told))?;
-    let exits = exits.concat();
-    delivery[..exits.len()].copy_from_slice(&exits);
-    reasons[..why.len()].copy_from_slice(&why);
-    Ok(exits.len() as u64 / 5)
+    deliver(memory, delivery, |book, room| {
+        let (exits, why) = book.step_reasons(room, reasons.len())?;
+        reasons[..why.len()].copy_from_slice(&why);
+        Ok(exits)
+    })
 }
 
 /// Recent flights: 8 and 9, then 16, 17, 12.

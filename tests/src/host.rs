@@ -16,6 +16,7 @@ pub trait Engine {
     fn offer_trial(&self, state: &mut [u32], flow: u32) -> u64;
     fn offer_set(&self, state: &mut [u32], flows: &[u32]) -> u64;
     fn step(&self, state: &mut [u32], delivery: &mut [u32]) -> u64;
+    fn steps(&self, state: &mut [u32], delivery: &mut [u32], cycles: u32) -> u64;
     fn step_reasons(&self, state: &mut [u32], delivery: &mut [u32], reasons: &mut [u32]) -> u64;
     fn recent(&self, state: &[u32], deliveries: &[u32], records: &mut [Record], last: u32) -> u64;
     fn write(&self, state: &[u32], notes: &[u8], target: &mut [u8]) -> u64;

@@ -1,6 +1,6 @@
 //! A second simulator of the torus engine and a second reckoning of its bounds, written from
-//! 01's text by the packet book's lines, and of U1's records, U4's sets, U5's periods and U7's reasons
-//! from 02's; and the comparison of another engine with it.
+//! 01's text by the packet book's lines, of U1's records, U4's sets, U5's periods and U7's reasons from
+//! 02's, and of many steps in one call; and the comparison of another engine with it.
 
 #[cfg(any(feature = "bounds", feature = "engine"))]
 pub mod archive;
@@ -17,5 +17,6 @@ pub mod reasons;
 pub mod recent;
 pub mod slips;
 pub mod state;
+pub mod steps;
 pub mod window;
 pub mod worst;

@@ -71,6 +71,10 @@ pub trait Calls {
         returned(calls::step(state, delivery))
     }
 
+    fn steps(&self, state: &mut [u32], delivery: &mut [u32], cycles: u32) -> u64 {
+        returned(calls::steps(state, delivery, cycles))
+    }
+
     fn step_reasons(&self, state: &mut [u32], delivery: &mut [u32], reasons: &mut [u32]) -> u64 {
         returned(calls::step_reasons(state, delivery, reasons))
     }
@@ -116,6 +120,11 @@ impl<C: Calls> Engine for Host<C> {
     fn step(&self, state: &mut [u32], delivery: &mut [u32]) -> u64 {
         let answer = self.0.step(state, delivery);
         self.0.give(Given { delivery, ..Given::new("step", answer, state) })
+    }
+
+    fn steps(&self, state: &mut [u32], delivery: &mut [u32], cycles: u32) -> u64 {
+        let answer = self.0.steps(state, delivery, cycles);
+        self.0.give(Given { delivery, ..Given::new("steps", answer, state) })
     }
 
     fn step_reasons(&self, state: &mut [u32], delivery: &mut [u32], reasons: &mut [u32]) -> u64 {

@@ -13,6 +13,7 @@ pub fn all_came_up(tally: &Tally) {
     tally.must_have_come_up("offer_trial", &[8, 9, 12, 18]);
     tally.must_have_come_up("offer_set", &[8, 9, 12, 13]);
     tally.must_have_come_up("step", &[8, 9, 10, 11]);
+    tally.must_have_come_up("steps", &[8, 9, 10, 11]);
     tally.must_have_come_up("step_reasons", &[8, 9, 10, 11, 19]);
     tally.must_have_come_up("recent", &[8, 9, 16, 17, 12]);
     tally.must_have_come_up("write", &[8, 9, 1, 15]);
@@ -80,8 +81,7 @@ pub fn offer_set(
     expected.is_ok()
 }
 
-/// A step, plain or with reasons, that is lent this. Gives it back with the count of exits, if the step
-/// is accepted.
+/// A form of step that is lent this. Gives it back with the count of exits, if the step is accepted.
 pub fn step(
     host: &impl Engine,
     tally: &mut Tally,
@@ -91,7 +91,7 @@ pub fn step(
     let before = state.expected().to_vec();
     let expected = lent.step(state.expected());
     let got = lent.step_by(host, state.got());
-    let call = Call { name: lent.name(), with: &(lent.lengths(), &before) };
+    let call = Call { name: lent.name(), with: &(lent.with(), &before) };
     tally.answer(call, expected, got);
     tally.memory(call, state);
     lent.compare(tally, call, expected.map_or(0, |_| before[2] as usize));

@@ -3,7 +3,7 @@
 
 use super::recent::{self, Kept};
 use super::steps::{Lent, about};
-use super::{Call, Tally, Twin, engine, sets};
+use super::{Call, Tally, Twin, engine, many, sets};
 use crate::book::{Book, Delivery};
 use crate::calls::Answer;
 use crate::host::Engine;
@@ -102,9 +102,9 @@ impl<'a, E: Engine> List<'a, E> {
         }
     }
 
-    /// A step that is lent so many words for its deliveries. Half of the steps tell reasons.
+    /// One cycle by any form of step, which is lent so many words for its deliveries.
     pub fn step(&mut self, tally: &mut Tally, random: &mut Random, room: usize) {
-        let lent = Lent::either(random, room, self.book.plan.flows.len());
+        let lent = Lent::any(random, room, self.book.plan.flows.len());
         self.step_lent(tally, random, lent);
     }
 
@@ -122,7 +122,7 @@ impl<'a, E: Engine> List<'a, E> {
         self.delivered.extend(exits.unwrap_or_default());
         let got = lent.step_by(self.host, self.state.got());
         let name = lent.name();
-        self.compare(tally, name, &lent.lengths(), expected, got);
+        self.compare(tally, name, &lent.with(), expected, got);
         let with = &("deliveries and reasons", self.book.clock, &self.file);
         let flows = expected.map_or(0, |_| self.book.plan.flows.len());
         lent.compare(tally, Call { name, with }, flows);
@@ -157,7 +157,7 @@ impl<'a, E: Engine> List<'a, E> {
             0 if short => drop(engine::offer(self.host, tally, &mut self.state, 0)),
             1 if short => drop(engine::offer_trial(self.host, tally, &mut self.state, 0)),
             2 if short => {
-                let lent = Lent::either(random, 1280, flows);
+                let lent = Lent::any(random, 1280, flows);
                 engine::step(self.host, tally, &mut self.state, lent);
             }
             3 if short => drop(engine::reset(self.host, tally, &self.file, &mut self.state)),
@@ -212,7 +212,11 @@ fn run(host: &impl Engine, tally: &mut Tally, random: &mut Random, plan: Plan, c
                 list.step_lent(tally, random, lent)
             }
             4..8 => list.unfed(tally, random),
-            8..11 => {
+            8..13 => {
+                let lent = many::lent(random, room);
+                list.step_lent(tally, random, lent)
+            }
+            13..16 => {
                 let flows = sets::list(random, flows);
                 list.offer_set(tally, random, &flows);
             }
@@ -319,7 +323,7 @@ pub fn slow_list(host: &impl Engine, tally: &mut Tally, random: &mut Random) {
     let mut list = List::new(host, tally, random, plan);
     for flows in offers {
         list.offer_by(tally, random, By::Offer, &flows);
-        list.unkept_step(tally, Lent::either(random, 10, 2));
+        list.unkept_step(tally, Lent::any(random, 10, 2));
     }
     list.end();
 }

@@ -6,6 +6,7 @@ mod deliveries;
 pub mod engine;
 pub mod listing;
 pub mod lists;
+pub mod many;
 pub mod parts;
 pub mod periods;
 pub mod plans;
@@ -102,6 +103,7 @@ fn no_flows(flow: usize, flows: usize) -> [u32; 7] {
 }
 
 /// Memory to be lent twice, to the simulator and to the other engine, with noise around it.
+#[derive(Clone, Debug, PartialEq)]
 pub struct Twin<T> {
     pub expected: Vec<T>,
     pub got: Vec<T>,

@@ -1,7 +1,7 @@
 //! The parts of the comparison: fixed boundaries first, then rounds. Each round has a seed of its
 //! own, the last one's + 1, which gives the torus too, so that 256 rounds go through all sizes.
 
-use super::{Tally, bounds, engine, lists, periods, reasons, recent, sets, states, trial};
+use super::{Tally, bounds, engine, lists, many, periods, reasons, recent, sets, states, trial};
 use crate::host::{Bounds, Engine};
 use crate::random::{Random, plan};
 use std::time::{Duration, Instant};
@@ -26,11 +26,11 @@ pub fn bounds(host: &impl Bounds, seed: u64, extent: Extent) -> Tally {
     tally
 }
 
-/// Reset, offer, the trial generator's offer, sets of offers, step, plain and with reasons, recent flights
-/// and write.
+/// Reset, offer, the trial generator's offer, sets of offers, all forms of step, recent flights and write.
 pub fn engine(host: &impl Engine, seed: u64, extent: Extent) -> Tally {
     let mut tally = Tally::new(seed);
     let mut random = Random::new(seed);
+    many::boundaries(host, &mut tally, &mut random);
     reasons::boundaries(host, &mut tally, &mut random);
     periods::slow_states(host, &mut tally, &mut random);
     recent::boundaries(host, &mut tally, &mut random);
@@ -46,6 +46,7 @@ pub fn engine(host: &impl Engine, seed: u64, extent: Extent) -> Tally {
         sets::round(host, tally, random, sx, sy);
         trial::round(host, tally, random, sx, sy);
         reasons::round(host, tally, random, sx, sy);
+        many::round(host, tally, random, sx, sy);
     });
     if let Extent::Gate = extent {
         reasons::came_up_often([0, 1, 2, 3, 4, 5].map(|at| tally.reasons[at] - by_hand[at]));

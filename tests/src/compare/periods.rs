@@ -94,7 +94,7 @@ pub fn slow_states(host: &impl Engine, tally: &mut Tally, random: &mut Random) {
             states::every_call(host, tally, random, &state);
             let run = &mut Twin::words(random, &state, 1);
             for _ in 0..6 {
-                engine::step(host, tally, run, Lent::either(random, 10, 1));
+                engine::step(host, tally, run, Lent::any(random, 10, 1));
             }
         }
     }
@@ -105,7 +105,7 @@ pub fn slow_states(host: &impl Engine, tally: &mut Tally, random: &mut Random) {
 }
 
 /// A flow with this period and count, no token and two packets waiting, on a 1 by 2 torus.
-fn waiting_state(period: u32, count: u32) -> Vec<u32> {
+pub fn waiting_state(period: u32, count: u32) -> Vec<u32> {
     let flow = Flow { xs: 0, ys: 0, xd: 0, yd: 1, period: 1, burst: 2 };
     let mut state = words(&Book::new(Plan { sx: 1, sy: 2, flows: vec![flow] }));
     (state[12], state[14], state[15], state[17]) = (period, 0, count, 2);

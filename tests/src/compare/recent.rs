@@ -33,6 +33,7 @@ pub fn feed(
 }
 
 /// Records of a run, at most `last` deliveries each.
+#[derive(Clone, Debug, PartialEq)]
 pub struct Kept {
     records: Twin<Record>,
     last: u32,

@@ -96,8 +96,8 @@ fn telling_values(word: u32) -> Vec<u32> {
     [&near[..], &small, &large].concat()
 }
 
-/// The offers, both steps, recent flights and write, each on its own copy of the words, with some noise
-/// past them.
+/// The offers, all forms of step, recent flights and write, each on its own copy of the words, with some
+/// noise past them.
 pub fn every_call(host: &impl Engine, tally: &mut Tally, random: &mut Random, state: &[u32]) {
     let past = random.index(5);
     calls_with_past(host, tally, random, state, past);
@@ -122,7 +122,12 @@ fn calls_with_past(
     sets::on_words(host, tally, random, filled, flows as usize);
     let room = about(random, 5 * routers);
     let told = about(random, flows as usize);
-    for lent in [Lent::plain(random, room), Lent::telling(random, room, told)] {
+    let cycles = random.pick(&[0, 1, 1, 2, 9]);
+    for lent in [
+        Lent::plain(random, room),
+        Lent::telling(random, room, told),
+        Lent::many(random, room, cycles),
+    ] {
         engine::step(host, tally, &mut Twin::words(random, state, past), lent);
     }
     let fed = &mut Twin::words(random, state, past);
@@ -164,7 +169,7 @@ pub fn round(host: &impl Engine, tally: &mut Tally, random: &mut Random, sx: i64
     let mut run = Twin::words(random, &state, 2);
     let mut kept = Kept::new(random, flows);
     for _ in 0..random.from(1, 12) {
-        let lent = Lent::either(random, 5 * plan.routers(), flows);
+        let lent = Lent::any(random, 5 * plan.routers(), flows);
         if let Some((lent, exits)) = engine::step(host, tally, &mut run, lent) {
             kept.feed(host, tally, random, &mut run, lent.delivery, exits);
         }

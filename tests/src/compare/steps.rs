@@ -1,4 +1,5 @@
-//! A step, plain or with reasons: the memory that it is lent besides the state, and what it leaves there.
+//! A step, plain or with reasons, or many in one call: the memory that it is lent besides the state, and what
+//! it leaves there.
 
 use super::{Call, Tally, Twin};
 use crate::book::{Book, Delivery};
@@ -7,65 +8,98 @@ use crate::host::Engine;
 use crate::plan::Refusal;
 use crate::promises::check_reasons;
 use crate::random::Random;
+use std::fmt::Debug;
 
-/// Noise for the deliveries and, if the step tells reasons, for these.
+/// Noise for the deliveries, and what else is lent to a form of step.
 pub struct Lent {
     pub delivery: Twin<u32>,
-    reasons: Option<Twin<u32>>,
+    form: Form,
+}
+
+enum Form {
+    Plain,
+    /// With noise for the reasons.
+    Telling(Twin<u32>),
+    /// So many cycles.
+    Many(u32),
 }
 
 impl Lent {
+    fn new(random: &mut Random, room: usize, form: Form) -> Lent {
+        Lent { delivery: Twin::noise_words(random, room), form }
+    }
+
     /// So many words for the deliveries of a plain step.
     pub fn plain(random: &mut Random, room: usize) -> Lent {
-        Lent { delivery: Twin::noise_words(random, room), reasons: None }
+        Lent::new(random, room, Form::Plain)
     }
 
     /// So many words for deliveries, and so many for reasons.
     pub fn telling(random: &mut Random, room: usize, told: usize) -> Lent {
-        let reasons = Some(Twin::noise_words(random, told));
-        Lent { reasons, ..Lent::plain(random, room) }
+        let reasons = Twin::noise_words(random, told);
+        Lent::new(random, room, Form::Telling(reasons))
     }
 
-    /// So many words for deliveries and, half of the time, enough for the reasons of so many flows.
-    pub fn either(random: &mut Random, room: usize, flows: usize) -> Lent {
-        if random.percent(50) {
-            return Lent::plain(random, room);
+    /// So many words for the deliveries of so many cycles.
+    pub fn many(random: &mut Random, room: usize, cycles: u32) -> Lent {
+        Lent::new(random, room, Form::Many(cycles))
+    }
+
+    /// So many words for the deliveries of one cycle, by any form of step. There are enough for the
+    /// reasons of so many flows.
+    pub fn any(random: &mut Random, room: usize, flows: usize) -> Lent {
+        match random.from(0, 4) {
+            0 => Lent::many(random, room, 1),
+            1 | 2 => Lent::plain(random, room),
+            _ => {
+                let told = flows + random.index(4);
+                Lent::telling(random, room, told)
+            }
         }
-        let told = flows + random.index(4);
-        Lent::telling(random, room, told)
     }
 
     /// The name of the call that is lent this.
     pub fn name(&self) -> &'static str {
-        if self.reasons.is_some() { "step_reasons" } else { "step" }
+        match self.form {
+            Form::Plain => "step",
+            Form::Telling(_) => "step_reasons",
+            Form::Many(_) => "steps",
+        }
     }
 
-    /// How many words there are for deliveries, and for reasons.
-    pub fn lengths(&self) -> (usize, Option<usize>) {
-        (self.delivery.lent.len(), self.reasons.as_ref().map(|reasons| reasons.lent.len()))
+    /// How many words there are for deliveries, and for reasons, or how many cycles.
+    pub fn with(&self) -> impl Debug + use<> {
+        let (told, cycles) = match &self.form {
+            Form::Plain => (None, None),
+            Form::Telling(reasons) => (Some(reasons.lent.len()), None),
+            Form::Many(cycles) => (None, Some(*cycles)),
+        };
+        (self.delivery.lent.len(), told, cycles)
     }
 
     /// The second simulator's step on a state.
     pub fn step(&mut self, state: &mut [u32]) -> Answer {
         let delivery = self.delivery.expected();
-        match &mut self.reasons {
-            None => calls::step(state, delivery),
-            Some(reasons) => calls::step_reasons(state, delivery, reasons.expected()),
+        match &mut self.form {
+            Form::Plain => calls::step(state, delivery),
+            Form::Telling(reasons) => calls::step_reasons(state, delivery, reasons.expected()),
+            Form::Many(cycles) => calls::steps(state, delivery, *cycles),
         }
     }
 
     /// The book's step: its exits.
     pub fn step_book(&mut self, book: &mut Book) -> Result<Vec<Delivery>, Refusal> {
         let room = self.delivery.lent.len();
-        let exits = match &mut self.reasons {
-            None => book.step(room)?,
-            Some(reasons) => {
+        let exits = match &mut self.form {
+            Form::Plain => book.step(room)?,
+            Form::Telling(reasons) => {
                 let before = book.clone();
                 let (exits, told) = book.step_reasons(room, reasons.lent.len())?;
                 check_reasons(&before, &told, book);
                 reasons.put(&told);
                 exits
             }
+            Form::Many(cycles) => book.steps(room, *cycles)?,
         };
         self.delivery.put(&exits.concat());
         Ok(exits)
@@ -74,16 +108,17 @@ impl Lent {
     /// The other engine's step on a state.
     pub fn step_by(&mut self, host: &impl Engine, state: &mut [u32]) -> u64 {
         let delivery = self.delivery.got();
-        match &mut self.reasons {
-            None => host.step(state, delivery),
-            Some(reasons) => host.step_reasons(state, delivery, reasons.got()),
+        match &mut self.form {
+            Form::Plain => host.step(state, delivery),
+            Form::Telling(reasons) => host.step_reasons(state, delivery, reasons.got()),
+            Form::Many(cycles) => host.steps(state, delivery, *cycles),
         }
     }
 
     /// Compares both memories, and counts the reasons of so many flows.
     pub fn compare(&mut self, tally: &mut Tally, call: Call, flows: usize) {
         tally.memory(call, &self.delivery);
-        if let Some(reasons) = &mut self.reasons {
+        if let Form::Telling(reasons) = &mut self.form {
             tally.memory(call, reasons);
             tally.tell(&reasons.expected()[..flows]);
         }
@@ -91,7 +126,10 @@ impl Lent {
 
     /// The reasons that are to be told, and the words behind them.
     pub fn told(&mut self) -> &[u32] {
-        self.reasons.as_mut().map_or(&[], |reasons| reasons.expected())
+        match &mut self.form {
+            Form::Telling(reasons) => reasons.expected(),
+            _ => &[],
+        }
     }
 }
 

@@ -115,7 +115,7 @@ fn room_again(host: &impl Engine, tally: &mut Tally, random: &mut Random) {
     for (by_sonar, accepted) in [(0, true), (1, false), (2, false)] {
         let run = &mut Twin::words(random, &three_queues([0, 0, TRIAL]), 2);
         assert!(!offer_trial(host, tally, run, 2));
-        step(host, tally, run, Lent::either(random, 30, 3));
+        step(host, tally, run, Lent::any(random, 30, 3));
         for _ in 0..by_sonar {
             assert!(offer(host, tally, run, 2));
         }
@@ -141,7 +141,7 @@ pub fn round(host: &impl Engine, tally: &mut Tally, random: &mut Random, sx: i64
             _ => often as u32,
         };
         match random.from(0, 9) {
-            0 => drop(step(host, tally, run, Lent::either(random, 5 * plan.routers(), flows))),
+            0 => drop(step(host, tally, run, Lent::any(random, 5 * plan.routers(), flows))),
             1 => drop(offer_set(host, tally, run, &mut sets::lent(random, &[flow; 2], flows))),
             2 | 3 => drop(offer(host, tally, run, flow)),
             _ => drop(offer_trial(host, tally, run, flow)),
