@@ -5,6 +5,7 @@ mod faults {
     pub mod bounds;
     pub mod engine;
     pub mod listing;
+    pub mod many;
     pub mod reasons;
     pub mod recent;
     pub mod records;
@@ -60,6 +61,11 @@ fn in_recent_flights() -> Vec<Planted<'static>> {
 
 fn in_sets() -> Vec<Planted<'static>> {
     use faults::sets::{FAULTS, Faulty};
+    FAULTS.iter().map(|(name, fault)| of_the_engine(*name, Faulty(*fault))).collect()
+}
+
+fn in_many_steps() -> Vec<Planted<'static>> {
+    use faults::many::{FAULTS, Faulty};
     FAULTS.iter().map(|(name, fault)| of_the_engine(*name, Faulty(*fault))).collect()
 }
 
@@ -156,6 +162,7 @@ fn faults_are_noticed() {
         in_the_engine(),
         in_recent_flights(),
         in_sets(),
+        in_many_steps(),
         in_trial_offers(),
         in_reasons(),
         in_the_bounds(),

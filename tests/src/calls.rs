@@ -56,7 +56,7 @@ pub fn offer_set(memory: &mut [u32], flows: &[u32]) -> Answer {
 }
 
 /// A form of step, which writes its exits over the front of the delivery memory and answers their count.
-fn deliver(
+pub fn deliver(
     memory: &mut [u32],
     delivery: &mut [u32],
     step: impl FnOnce(&mut Book, usize) -> Result<Vec<Delivery>, Refusal>,

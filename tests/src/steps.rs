@@ -3,6 +3,7 @@
 
 use crate::book::{Book, Bucket, Delivery, LAST_CLOCK};
 use crate::plan::Refusal;
+use std::collections::VecDeque;
 
 /// The delivery memory that is used at most: the answer counts its exits in 32 bits.
 const MOST_WORDS: usize = 5 * u32::MAX as usize;
@@ -51,12 +52,12 @@ impl Book {
         cycles
     }
 
-    /// In none of so many cycles does anything move: nothing is in flight, and no flow that waits has a
-    /// token after them. Without an entry none loses one meanwhile.
+    /// In none of so many cycles does anything move: nothing is in flight, and in the last of them no flow
+    /// that waits has a token. Without an entry none loses one before.
     fn is_idle(&self, cycles: i64) -> bool {
         let rests =
-            |(flow, bucket): (usize, Bucket)| self.waiting[flow].is_empty() || bucket.tokens == 0;
-        self.placed.is_empty() && self.buckets_after(cycles).enumerate().all(rests)
+            |(bucket, lines): (Bucket, &VecDeque<usize>)| lines.is_empty() || bucket.tokens == 0;
+        self.placed.is_empty() && self.buckets_after(cycles - 1).zip(&self.waiting).all(rests)
     }
 
     /// Passes so many cycles without a move.

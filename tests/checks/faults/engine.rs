@@ -1,7 +1,7 @@
-//! Faults of reset, offer, write and both steps, and of every call that judges the words of a state.
+//! Faults of reset, offer, write and all forms of step, and of every call that judges the words of a state.
 
 use super::records::Misread;
-use super::simulator::{Calls, Given};
+use super::simulator::{Calls, Given, refused};
 use second::calls;
 use second::host::returned;
 use second::plan::change_records;
@@ -48,6 +48,28 @@ impl Given<'_> {
             Err(no) if self.accepted() => self.answer = no.number << 32,
             _ => {}
         }
+    }
+
+    /// The answer refused with this number in place of another, or of 0, where this holds of words that
+    /// say how many routers and flows there are.
+    fn but(&mut self, number: u64, other: u64, holds: impl Fn(&Self) -> bool) {
+        let is_due = if self.accepted() { 0 } else { self.answer >> 32 };
+        if is_due == number && self.state.len() >= HEADER && holds(self) {
+            self.answer = refused(other, 0);
+        }
+    }
+
+    /// How many words the deliveries of a step take.
+    fn least_room(&self) -> usize {
+        5 * self.state[0] as usize * self.state[1] as usize
+    }
+
+    fn has_little_room(&self) -> bool {
+        self.state[0] <= 16 && self.state[1] <= 16 && self.delivery.len() < self.least_room()
+    }
+
+    fn is_at_the_last_clock(&self) -> bool {
+        self.state[3] == u32::MAX
     }
 
     fn state_words(&self) -> usize {
@@ -135,14 +157,14 @@ pub const FAULTS: &[(&str, Fault)] = &[
     }),
 ];
 
-/// The steps, plain and with reasons.
-pub const STEPS: &[&str] = &["step", "step_reasons"];
+/// The forms of step.
+pub const STEPS: &[&str] = &["step", "steps", "step_reasons"];
 
 /// Faults that each of them may have.
 pub const STEPPED: &[(&str, Fault)] = &[
     ("a clock that stands still", |given| {
         if given.accepted() {
-            given.state[3] -= 1;
+            given.state[3] = given.state[3].wrapping_sub(1);
         }
     }),
     ("a count not found in the records", |given| given.answer += given.accepted() as u64),
@@ -162,6 +184,26 @@ pub const STEPPED: &[(&str, Fault)] = &[
             given.state[3] = 0;
         }
     }),
+    ("deliveries cleared where it is refused", |given| {
+        if !given.accepted() {
+            given.delivery.fill(0);
+        }
+    }),
+    ("11 before 10", |given| given.but(10, 11, Given::is_at_the_last_clock)),
+    ("11 before 9", |given| given.but(9, 11, Given::is_at_the_last_clock)),
+    ("11 before 8", |given| given.but(8, 11, Given::is_at_the_last_clock)),
+    ("10 before 9", |given| given.but(9, 10, Given::has_little_room)),
+    ("10 before 8", |given| given.but(8, 10, Given::has_little_room)),
+    ("8 where 9 is due", |given| given.but(9, 8, |_| true)),
+    ("10 where 11 is due", |given| given.but(11, 10, |_| true)),
+    ("11 where it comes to the last clock", |given| given.but(0, 11, Given::is_at_the_last_clock)),
+    ("10 at as many words as it takes", |given| {
+        given.but(0, 10, |given| given.delivery.len() == given.least_room())
+    }),
+    ("0 where 8 is due", |given| given.but(8, 0, |_| true)),
+    ("0 where 9 is due", |given| given.but(9, 0, |_| true)),
+    ("0 where 10 is due", |given| given.but(10, 0, |_| true)),
+    ("0 where 11 is due", |given| given.but(11, 0, |_| true)),
     ("a counter that rests in a full bucket", |given| {
         if given.accepted() {
             given.full_buckets().for_each(|bucket| bucket[3] = 0);
@@ -194,7 +236,7 @@ pub const STEPPED: &[(&str, Fault)] = &[
 
 /// The calls that judge the words of a state.
 pub const JUDGES: &[&str] =
-    &["offer", "offer_trial", "offer_set", "step", "step_reasons", "recent", "write"];
+    &["offer", "offer_trial", "offer_set", "step", "steps", "step_reasons", "recent", "write"];
 
 /// Faults that each of them may have: a bucket judged as though it were another.
 pub const JUDGED: &[(&str, Fault)] = &[

@@ -51,15 +51,6 @@ impl Lent<'_> {
         self.state.len() >= HEADER && self.reasons.len() < self.flows()
     }
 
-    /// There are more routers than the deliveries have room for.
-    fn has_little_room(&self) -> bool {
-        self.state.len() >= HEADER && self.delivery.len() / 5 < self.routers()
-    }
-
-    fn is_last_cycle(&self) -> bool {
-        self.state.len() >= HEADER && self.state[3] == u32::MAX
-    }
-
     /// The call, but for 19 where this holds: it tells as many reasons as there are words for.
     fn with_room(mut self, holds: impl Fn(&Lent) -> bool) -> u64 {
         if self.number() != 19 || !holds(&self) {
@@ -144,21 +135,6 @@ pub const FAULTS: &[(&str, Fault)] = &[
     ("19 for an empty list before all", |mut lent| {
         if lent.reasons.is_empty() { refused(19, 0) } else { lent.right() }
     }),
-    ("11 before 10", |lent| lent.but(10, refused(11, 0), |lent| lent.is_last_cycle())),
-    ("11 before 9", |lent| lent.but(9, refused(11, 0), |lent| lent.is_last_cycle())),
-    ("11 before 8", |lent| lent.but(8, refused(11, 0), |lent| lent.is_last_cycle())),
-    ("10 before 9", |lent| lent.but(9, refused(10, 0), |lent| lent.has_little_room())),
-    ("10 before 8", |lent| lent.but(8, refused(10, 0), |lent| lent.has_little_room())),
-    ("8 where 9 is due", |lent| lent.but(9, refused(8, 0), |_| true)),
-    ("10 where 11 is due", |lent| lent.but(11, refused(10, 0), |_| true)),
-    ("11 a cycle early", |lent| lent.but(0, refused(11, 0), |lent| lent.state[3] == u32::MAX - 1)),
-    ("10 at as many words as it takes", |lent| {
-        lent.but(0, refused(10, 0), |lent| lent.delivery.len() == 5 * lent.routers())
-    }),
-    ("0 where 8 is due", |lent| lent.but(8, 0, |_| true)),
-    ("0 where 9 is due", |lent| lent.but(9, 0, |_| true)),
-    ("0 where 10 is due", |lent| lent.but(10, 0, |_| true)),
-    ("0 where 11 is due", |lent| lent.but(11, 0, |_| true)),
     // What is lent stays where a call is refused.
     ("the step done where 19 is due", |lent| {
         lent.then(19, |lent| {

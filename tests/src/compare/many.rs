@@ -44,16 +44,17 @@ fn call(
     Some((run.expected()[3], exits))
 }
 
-/// Each refusal alone, and in front of and behind each other one, for no cycle, one, a few and the most.
+/// Each refusal alone, and in front of and behind each other one, for a plain step and for no cycle, one,
+/// a few and the most.
 fn orders(host: &impl Engine, tally: &mut Tally, random: &mut Random) {
     for clock in [7, MOST - 1, MOST] {
         let mut state = three_queues([1, 0, 2]);
         state[3] = clock;
         for state in whole_and_broken(&state) {
             for room in [0, 3, 29, 30, 31, 99] {
-                for cycles in [0, 1, 3, MOST] {
-                    let run = &mut Twin::words(random, &state, 0);
-                    step(host, tally, run, Lent::many(random, room, cycles));
+                let many = [0, 1, 3, MOST].map(|cycles| Lent::many(random, room, cycles));
+                for lent in many.into_iter().chain([Lent::plain(random, room)]) {
+                    step(host, tally, &mut Twin::words(random, &state, 0), lent);
                 }
             }
         }
@@ -65,9 +66,9 @@ fn orders(host: &impl Engine, tally: &mut Tally, random: &mut Random) {
 fn exact_rooms(host: &impl Engine, tally: &mut Tally, random: &mut Random) {
     let flows = vec![Flow::from_numbers([0, 0, 0, 0, 1, 1])];
     let mut state = words(&Book::new(Plan { sx: 1, sy: 1, flows }));
-    state[waiting_at(0)] = 9;
-    for room in 5..27 {
-        for cycles in [0, 1, 2, 3, 4, 5, 6, MOST] {
+    state[waiting_at(0)] = 400;
+    for room in (5..27).chain(1499..1502) {
+        for cycles in [0, 1, 2, 3, 4, 5, 6, 300, MOST] {
             let ran = cycles.min(room as u32 / 5);
             let expected = Some((ran, ran as u64));
             assert_eq!(call(host, tally, random, &state, room, cycles), expected, "{room}");
