@@ -10,7 +10,7 @@ use second::random::{Random, plan};
 use second::state::{judge, words};
 
 /// A list of so many calls: offers of the sonar and of the generator, some of them to a flow that isn't
-/// there, sets and steps, half of which tell reasons.
+/// there, sets and steps, half of which tell reasons, and a few of many cycles.
 fn run(random: &mut Random, mut book: Book, calls: usize) {
     let flows = book.plan.flows.len();
     let watched = random.index(flows);
@@ -30,6 +30,9 @@ fn run(random: &mut Random, mut book: Book, calls: usize) {
         } else if random.percent(offers) {
             let flow = random.index(flows + 1) as u32;
             assert_eq!(book.offer(flow).is_ok(), (flow as usize) < flows);
+        } else if random.percent(10) {
+            let cycles = random.from(0, 20) as u32;
+            delivered.extend(book.steps(2 * room, cycles).unwrap());
         } else if random.percent(50) {
             let (before, mut plain) = (book.clone(), book.clone());
             let (exits, reasons) = book.step_reasons(room, flows).unwrap();
