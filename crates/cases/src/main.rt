@@ -8,7 +8,7 @@ use plan::Answer;
 ghost use Prim.Native.Nat.{_≤_, _<_};
 ghost use lib.ListN.{length};
 
-// The words, as their letters' bytes: #, read, window, flight, reset, offer, trial, set, step, why, write, word, byte.
+// The words, as their letters' bytes: #, read, window, flight, reset, offer, trial, set, step, steps, why, write, word, byte.
 const NOTE: u64 = 0x23;
 
 const READ: u64 = 0x72656164;
@@ -26,6 +26,8 @@ const TRIAL: u64 = 0x747269616c;
 const SET: u64 = 0x736574;
 
 const STEP: u64 = 0x73746570;
+
+const STEPS: u64 = 0x7374657073;
 
 const WHY: u64 = 0x776879;
 
@@ -68,11 +70,21 @@ fn tell(answer: Answer) {
     }
 }
 
-// The first five words of a delivery memory.
-fn tell_first(delivery: &[u32; 80]) {
+// The first words of a delivery memory, so many.
+fn tell_first(delivery: &[u32; 80], n: usize)
+    requires { ⌜ n ≤ 80 ⌝ }
+{
     mark(b':');
-    for i in 0..5 {
+    for i in 0..n {
         number(delivery[i]);
+    }
+}
+
+// The clock, if the words that are lent have one.
+fn tell_clock(state: &[u32]) {
+    mark(b':');
+    if 3 < state.len() {
+        number(state[3]);
     }
 }
 
@@ -106,7 +118,18 @@ fn step(state: &mut [u32], room: u32) -> Answer {
     let mut delivery = [9u32; 80];
     let n = at_most(room as u64, 80);
     let answer = step::step(state, &mut delivery[..n]);
-    tell_first(&delivery);
+    tell_first(&delivery, 5);
+    answer
+}
+
+// So many steps in one call, with nines in the delivery memory: the clock afterwards and the first ten words stand before the answer.
+fn steps(state: &mut [u32], cycles: usize, room: u32) -> Answer {
+    let mut delivery = [9u32; 80];
+    let n = at_most(room as u64, 80);
+    let k = low(cycles as u64);
+    let answer = steps::steps(state, &mut delivery[..n], k);
+    tell_clock(state);
+    tell_first(&delivery, 10);
     answer
 }
 
@@ -157,13 +180,14 @@ fn call(word: u64, file: &[u8], state: &mut [u32], last: u32) -> Answer {
         TRIAL => offer::offer(Offerer::Generator, state, last),
         SET => offer_set(state, file.len(), last),
         STEP => step(state, last),
+        STEPS => steps(state, file.len(), last),
         WHY => step_reasons(state, file.len(), last),
         _ => ask(word, file, state, last),
     }
 }
 
-// The first bytes of the plan file and the first words of the state are lent, as many as the line says. A set has as many entries, and
-// a reason list as many words, as there would be bytes.
+// The first bytes of the plan file and the first words of the state are lent, as many as the line says. A set has as many entries, a
+// reason list as many words, and as many steps run in one call, as there would be bytes.
 fn lend(word: u64, file: &[u8], bytes: u64, state: &mut [u32], words: u64, last: u32) {
     let n = at_most(bytes, file.len());
     let k = at_most(words, state.len());
@@ -213,6 +237,7 @@ fn fitting(word: u64, a: u64, b: u64, c: u64) -> bool {
         WORD => fits(a, 155, b, 4294967295, line::NONE, c),
         SET => fits(a, 4, b, 156, c, 4294967295),
         STEP => fits(a, 0, b, 156, c, 80),
+        STEPS => fits(a, 65537, b, 156, c, 80),
         WHY => fits(a, 2, b, 156, c, 80),
         WRITE => fits(a, 65537, b, 156, c, 24),
         _ => fits(a, 65537, b, 156, c, 4294967295),
