@@ -8,6 +8,7 @@ use super::steps::{Lent, about};
 use super::{Tally, Twin, sets};
 use crate::host::Engine;
 use crate::random::{self, Random};
+use crate::state::waiting_at;
 
 /// How often each reason comes up in the gate's rounds at the least.
 const OFTEN: u64 = 5000;
@@ -67,12 +68,12 @@ fn orders(host: &impl Engine, tally: &mut Tally, random: &mut Random) {
     }
 }
 
-/// A plan of so many flows on a square torus, with every length of both memories about its limit. Words
-/// after the last flow stay.
+/// A plan of so many flows on a square torus, with every length of both memories about its limit, on a state
+/// with short queues, which is judged often. Words after the last flow stay.
 fn lengths(host: &impl Engine, tally: &mut Tally, random: &mut Random, size: i64, flows: usize) {
     let plan = random::plan(random, size, size, flows);
     let mut state = random::state(random, &plan);
-    while state[3] == u32::MAX {
+    while state[3] == u32::MAX || (0..flows).any(|flow| state[waiting_at(flow)] > 999) {
         state = random::state(random, &plan);
     }
     let least = 5 * plan.routers();
