@@ -316,6 +316,22 @@ pub fn worst_lists(host: &impl Engine, tally: &mut Tally, random: &mut Random) {
     }
 }
 
+/// A list to the last cycle and past it: one call passes nearly all cycles, and every form of step and offer
+/// has the rest.
+pub fn last_cycles(host: &impl Engine, tally: &mut Tally, random: &mut Random) {
+    let plan = met_exactly().0;
+    let room = 5 * plan.routers();
+    let mut list = List::new(host, tally, random, plan);
+    list.offer_set(tally, random, &[0, 1, 2, 3, 1, 1]);
+    let lent = Lent::many(random, 9 * room, u32::MAX - 30);
+    list.step_lent(tally, random, lent);
+    for cycle in 0..40 {
+        list.offer_by(tally, random, By::ALL[cycle % 3], &[1, 3]);
+        list.step(tally, random, room);
+    }
+    list.end();
+}
+
 /// The list that meets the bound of a slow flow. It takes two of its periods, so nothing is kept of
 /// its flights.
 pub fn slow_list(host: &impl Engine, tally: &mut Tally, random: &mut Random) {
