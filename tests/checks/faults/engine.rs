@@ -50,8 +50,8 @@ impl Given<'_> {
         }
     }
 
-    /// The answer refused with this number in place of another, or of 0, where this holds of words that
-    /// say how many routers and flows there are.
+    /// Another number in place of the one that is due, or 0 for none, where this holds of eight words or
+    /// more.
     fn but(&mut self, number: u64, other: u64, holds: impl Fn(&Self) -> bool) {
         let is_due = if self.accepted() { 0 } else { self.answer >> 32 };
         if is_due == number && self.state.len() >= HEADER && holds(self) {

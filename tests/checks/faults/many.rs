@@ -119,10 +119,10 @@ fn by_step(exits: &[Delivery]) -> Vec<&[Delivery]> {
     exits.chunk_by(|one, next| one[3] == next[3]).collect()
 }
 
-/// A bucket in which so much is counted from its last token on.
-fn counted(flow: &Flow, bucket: Bucket, counted: i64) -> Bucket {
-    let tokens = flow.burst.min(bucket.tokens + counted / flow.period);
-    Bucket { tokens, count: counted % flow.period }
+/// A bucket that has counted so many cycles since its last token.
+fn counted(flow: &Flow, bucket: Bucket, cycles: i64) -> Bucket {
+    let tokens = flow.burst.min(bucket.tokens + cycles / flow.period);
+    Bucket { tokens, count: cycles % flow.period }
 }
 
 pub const FAULTS: &[(&str, Fault)] = &[
@@ -149,9 +149,7 @@ pub const FAULTS: &[(&str, Fault)] = &[
         })
     }),
     ("a leap over packets in flight", |lent| lent.idle_after(|book| book.placed.clear())),
-    ("a leap over one packet in flight", |lent| {
-        lent.idle_after(|book| book.placed.truncate(book.placed.len() - 1.min(book.placed.len())))
-    }),
+    ("a leap over one packet in flight", |lent| lent.idle_after(|book| drop(book.placed.pop()))),
     ("a leap one cycle too far", |lent| {
         lent.passing(|book, most| {
             let idle = book.pass_idle(most);

@@ -113,7 +113,7 @@ fn stretches(host: &impl Engine, tally: &mut Tally, random: &mut Random) {
     let mut book = Book::new(Plan { sx: 2, sy: 2, flows });
     for (f, flow) in book.plan.flows.iter().enumerate() {
         let counts = [0, flow.period / 2, flow.period - 1];
-        book.buckets[f] = Bucket { tokens: f as i64 % 4, count: random.pick(&counts) };
+        book.buckets[f] = Bucket { tokens: f as i64 % 4, count: counts[f % 3] };
     }
     let last = book.plan.flows.len() - 4;
     for waiting in [0, 1] {
@@ -126,8 +126,26 @@ fn stretches(host: &impl Engine, tally: &mut Tally, random: &mut Random) {
     }
 }
 
-/// Some cycles and room for a few steps that need so many words each, or a little less than for one: none,
-/// one, a few or many cycles, seldom so many that no list goes on long.
+/// Idle stretches that end where another flow's packet enters or leaves: one flow waits for two tokens of
+/// period 100, one for three of period 7, and one enters at once.
+pub fn interrupted(host: &impl Engine, tally: &mut Tally, random: &mut Random) {
+    let flows = [[0, 0, 1, 1, 100, 2], [1, 1, 1, 1, 7, 1], [0, 1, 1, 0, 50, 1]];
+    let mut book = Book::new(Plan { sx: 2, sy: 2, flows: flows.map(Flow::from_numbers).to_vec() });
+    for (flow, waiting) in [(0, 2), (1, 3), (2, 1)] {
+        book.buckets[flow].tokens = flow as i64 / 2;
+        (0..waiting).for_each(|_| book.add_waiting_line(flow));
+    }
+    let entries = [0, 7, 14, 21, 100, 200];
+    for cycles in (0..30).chain(95..110).chain(195..210).chain([MOST]) {
+        let left = entries.into_iter().zip([2, 0, 0, 0, 2, 2]);
+        let left = left.filter(|(entry, flies)| entry + flies < cycles).count() as u64;
+        let called = call(host, tally, random, &words(&book), 60, cycles);
+        assert_eq!(called, Some((cycles, left)));
+    }
+}
+
+/// Some cycles, none, one, a few or many, seldom millions, and room for a few steps that take so many words
+/// each, or a word or two too few for one.
 pub fn lent(random: &mut Random, least: usize) -> Lent {
     let cycles = match random.from(0, 99) {
         0..10 => 0,
@@ -171,7 +189,7 @@ fn rooms_about_a_step(host: &impl Engine, tally: &mut Tally, random: &mut Random
     };
     let enough = least + 5 * exits.len();
     for room in [enough - 1, enough, enough + 1] {
-        let cycles = random.pick(&[before, before + 1, before + 2, MOST.min(before + 20)]);
+        let cycles = random.pick(&[before, before + 1, before + 2, MOST]);
         call(host, tally, random, state, room, cycles);
     }
 }

@@ -54,6 +54,7 @@ pub fn engine(host: &impl Engine, seed: u64, extent: Extent) -> Tally {
     lists::worst_lists(host, &mut tally, &mut random);
     lists::slow_list(host, &mut tally, &mut random);
     lists::last_cycles(host, &mut tally, &mut random);
+    many::interrupted(host, &mut tally, &mut random);
     lists::full_queue(host, &mut tally, &mut random);
     lists::full_queues_by_sets(host, &mut tally, &mut random);
     trial::queues(host, &mut tally, &mut random);

@@ -8,7 +8,6 @@ use crate::host::Engine;
 use crate::plan::Refusal;
 use crate::promises::check_reasons;
 use crate::random::Random;
-use std::fmt::Debug;
 
 /// Noise for the deliveries, and what else is lent to a form of step.
 pub struct Lent {
@@ -68,7 +67,7 @@ impl Lent {
     }
 
     /// How many words there are for deliveries, and for reasons, or how many cycles.
-    pub fn with(&self) -> impl Debug + use<> {
+    pub fn with(&self) -> (usize, Option<usize>, Option<u32>) {
         let (told, cycles) = match &self.form {
             Form::Plain => (None, None),
             Form::Telling(reasons) => (Some(reasons.lent.len()), None),
