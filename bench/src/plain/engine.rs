@@ -5,6 +5,7 @@ use super::plan::{numbers, read};
 use super::recent::recent;
 use super::state::state;
 use super::step::{step, step_reasons};
+use super::steps::steps;
 use super::{Plain, refused};
 use second::host::Engine;
 use second::offers::{MOST_TRIAL, MOST_WAITING};
@@ -45,6 +46,10 @@ impl Engine for Plain {
 
     fn step(&self, words: &mut [u32], delivery: &mut [u32]) -> u64 {
         step(words, delivery)
+    }
+
+    fn steps(&self, words: &mut [u32], delivery: &mut [u32], cycles: u32) -> u64 {
+        steps(words, delivery, cycles)
     }
 
     fn step_reasons(&self, words: &mut [u32], delivery: &mut [u32], reasons: &mut [u32]) -> u64 {

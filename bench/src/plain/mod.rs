@@ -8,6 +8,7 @@ mod plan;
 mod recent;
 mod state;
 mod step;
+mod steps;
 
 pub use plan::numbers;
 

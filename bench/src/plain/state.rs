@@ -75,7 +75,7 @@ fn registers_hold(state: &State) -> bool {
     true
 }
 
-fn is_empty(&[number, serial, entry, d]: &Register) -> bool {
+pub fn is_empty(&[number, serial, entry, d]: &Register) -> bool {
     number | serial | entry | d == 0
 }
 
