@@ -1,6 +1,7 @@
 //! What is timed of each call.
 
 use crate::loads::{Case, Load, SIZES, case};
+use crate::many_steps;
 use crate::plain::Plain;
 use crate::times::{Sides, print_row};
 use second::host::{Bounds, Engine};
@@ -63,20 +64,19 @@ fn all_bounds(host: &impl Bounds, case: &Case) {
     }
 }
 
-/// Step, plain and with reasons, offer, the trial generator's offer, sets of offers, recent flights, reset
-/// and write: the calls that both sides have.
+/// Step, plain and with reasons, offer, the trial generator's offer, sets of offers, recent flights, reset,
+/// write and many steps: the calls that both sides have.
 pub fn engine(sides: Sides, first: &impl Engine, second: &impl Engine) {
-    let taken = |case: &Case| sides.both(|| is_reset(first, case), || is_reset(second, case));
     sides.print_header();
-    for case in cases(&[Load::Light, Load::Slow, Load::Saturated], taken) {
+    for case in engine_cases(sides, first, second, &[Load::Light, Load::Slow, Load::Saturated]) {
         let state = case.state();
         print_row(
             "step",
             &case,
             sides.alternate(
                 BATCH,
-                steps(&case, &state, |words, delivery| first.step(words, delivery)),
-                steps(&case, &state, |words, delivery| second.step(words, delivery)),
+                steps(&state, BATCH, case.room(), |words, delivery| first.step(words, delivery)),
+                steps(&state, BATCH, case.room(), |words, delivery| second.step(words, delivery)),
             ),
         );
         if sides.both_have("hrt_step_reasons") {
@@ -85,8 +85,8 @@ pub fn engine(sides: Sides, first: &impl Engine, second: &impl Engine) {
                 &case,
                 sides.alternate(
                     BATCH,
-                    steps(&case, &state, telling(first, &case)),
-                    steps(&case, &state, telling(second, &case)),
+                    steps(&state, BATCH, case.room(), telling(first, &case)),
+                    steps(&state, BATCH, case.room(), telling(second, &case)),
                 ),
             );
         }
@@ -148,6 +148,19 @@ pub fn engine(sides: Sides, first: &impl Engine, second: &impl Engine) {
             sides.alternate(BATCH, writes(first, &case, &state), writes(second, &case, &state)),
         );
     }
+    if sides.both_have("hrt_steps") {
+        many_steps::time(sides, first, second);
+    }
+}
+
+/// The cases of these loads whose plans both engines take.
+pub fn engine_cases(
+    sides: Sides,
+    first: &impl Engine,
+    second: &impl Engine,
+    loads: &[Load],
+) -> Vec<Case> {
+    cases(loads, |case| sides.both(|| is_reset(first, case), || is_reset(second, case)))
 }
 
 /// Does the engine take the plan?
@@ -155,17 +168,19 @@ fn is_reset(host: &impl Engine, case: &Case) -> bool {
     host.reset(&case.file, &mut vec![0; case.words()]) == 0
 }
 
-/// Steps in a row by this call. Each turn starts from the same state.
-fn steps(
-    case: &Case,
+/// So many calls in a row that step, each with this room for deliveries. Each turn starts from the same
+/// state.
+pub fn steps(
     state: &[u32],
+    calls: usize,
+    room: usize,
     mut step: impl FnMut(&mut [u32], &mut [u32]) -> u64,
 ) -> impl FnMut() {
     let mut memory = state.to_vec();
-    let mut delivery = vec![0; 5 * case.routers()];
+    let mut delivery = vec![0; room];
     move || {
         memory.copy_from_slice(state);
-        for _ in 0..BATCH {
+        for _ in 0..calls {
             black_box(step(&mut memory, &mut delivery));
         }
     }
@@ -216,7 +231,7 @@ fn feeds(host: &impl Engine, case: &Case, state: &[u32], last: u32) -> impl FnMu
 /// The state after a batch of steps, and what each of them delivered.
 fn delivered(case: &Case, state: &[u32]) -> (Vec<u32>, Vec<Vec<u32>>) {
     let mut memory = state.to_vec();
-    let mut delivery = vec![0; 5 * case.routers()];
+    let mut delivery = vec![0; case.room()];
     let mut step = || {
         let exits = Plain.step(&mut memory, &mut delivery);
         delivery[..5 * exits as usize].to_vec()

@@ -1,11 +1,11 @@
-//! The plans and states that are timed: three sizes, each lightly and fully loaded, and with slow
-//! flows.
+//! The plans and states that are timed: three sizes, each with nothing to do, lightly and fully loaded,
+//! and with slow flows.
 
 use crate::plain::Plain;
 use second::host::Engine;
 use second::plan::{Flow, MOST_PERIOD, Plan};
 use second::random::Random;
-use second::state::waiting_at;
+use second::state::{HEADER, PER_FLOW, waiting_at};
 
 /// How much traffic a plan asks for.
 #[derive(Clone, Copy, Debug, PartialEq)]
@@ -18,6 +18,16 @@ pub enum Load {
     Climbing,
     /// Flows all over the torus that send whenever they can.
     Saturated,
+    /// As light, but nothing waits and nothing is in flight.
+    Idle,
+    /// Flows all over the torus that send one after the other: some four packets in flight.
+    Few,
+    /// Flows all over the torus that together use about half of its links.
+    Standard,
+    /// As light, with one packet of each flow now and then.
+    Pings,
+    /// As pings, but packets of the first flow, with a period of 12,000,000, always wait.
+    Waiting,
 }
 
 impl Load {
@@ -49,7 +59,15 @@ pub fn case(size: i64, flows: usize, load: Load) -> Case {
                 let period = random.from(65_536, MOST_PERIOD);
                 Flow { xs, ys, xd, yd, period, burst: 4 }
             }
-            Load::Light | Load::Slow => Flow { xs, ys, xd, yd, period: 10 * count, burst: 1 },
+            Load::Waiting if f == 0 => Flow { xs, ys, xd, yd, period: 12_000_000, burst: 1 },
+            Load::Light | Load::Slow | Load::Idle | Load::Pings | Load::Waiting => {
+                Flow { xs, ys, xd, yd, period: 10 * count, burst: 1 }
+            }
+            Load::Few => Flow { xs, ys, xd, yd, period: count * size / 4, burst: 1 },
+            Load::Standard => {
+                let period = random.from(size / 2, 2 * size);
+                Flow { xs, ys, xd, yd, period, burst: 2 }
+            }
             Load::Saturated => Flow { xs, ys, xd, yd, period: 1, burst: 2 },
             Load::Climbing => {
                 Flow { xs: 0, ys: 0, xd, yd, period: count, burst: climbing_burst(count) }
@@ -74,14 +92,38 @@ impl Case {
         (self.size * self.size) as usize
     }
 
-    /// The state after some hundred cycles, with packets of every flow waiting.
+    /// The words of the deliveries of a step.
+    pub fn room(&self) -> usize {
+        5 * self.routers()
+    }
+
+    /// The state after some hundred cycles, with packets of every flow waiting unless it is idle.
     pub fn state(&self) -> Vec<u32> {
-        let mut state = vec![0; self.words()];
-        let mut delivery = vec![0; 5 * self.routers()];
-        Plain.reset(&self.file, &mut state);
-        state = self.with_waiting(state, 30_000);
+        let mut state = self.reset();
+        let mut delivery = vec![0; self.room()];
+        if self.load != Load::Idle {
+            state = self.with_waiting(state, 30_000);
+        }
         for _ in 0..300 {
             Plain.step(&mut state, &mut delivery);
+        }
+        state
+    }
+
+    /// The state that the loads start from. A few packets come one after the other where the flows'
+    /// tokens do.
+    pub fn reset(&self) -> Vec<u32> {
+        let mut state = vec![0; self.words()];
+        Plain.reset(&self.file, &mut state);
+        match self.load {
+            Load::Waiting => state[waiting_at(0)] = 30_000,
+            Load::Few => {
+                let mut random = Random::new(self.flows as u64);
+                for flow in state[HEADER..].as_chunks_mut::<PER_FLOW>().0[..self.flows].iter_mut() {
+                    flow[7] = random.index(flow[4] as usize) as u32;
+                }
+            }
+            _ => {}
         }
         state
     }

@@ -8,6 +8,8 @@ mod calls;
 mod desk;
 mod listing;
 mod loads;
+#[cfg_attr(not(feature = "engine"), allow(dead_code))]
+mod many_steps;
 mod plain;
 #[cfg(feature = "engine")]
 mod processor;
@@ -38,7 +40,10 @@ fn main() {
         #[cfg(feature = "bounds")]
         ["bounds"] => calls::bounds(PLAIN_AND_ARCHIVE, &Plain, &second::archive::Archive),
         #[cfg(feature = "engine")]
-        ["engine"] => calls::engine(PLAIN_AND_ARCHIVE, &Plain, &second::archive::Archive),
+        ["engine"] => {
+            calls::engine(PLAIN_AND_ARCHIVE, &Plain, &second::archive::Archive);
+            many_steps::time_beside_step(&second::archive::Archive);
+        }
         #[cfg(feature = "before")]
         ["before", ref lacking @ ..] => {
             match lacking.iter().find(|name| !name.starts_with("hrt_")) {

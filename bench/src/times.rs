@@ -94,7 +94,8 @@ pub fn print_row(call: &str, case: &Case, times: Times) {
     let torus = format!("{size}x{size}");
     let load = load.name();
     let share = second / (case.routers() + flows) as f64;
+    let decimals = if second < 10.0 { 2 } else { 0 };
     println!(
-        "{call:8} {torus:6} {flows:5}  {load:9} {first:10.0}  {second:10.0}  {ratio:5.2}  {share:10.2}"
+        "{call:8} {torus:6} {flows:5}  {load:9} {first:10.decimals$}  {second:10.decimals$}  {ratio:5.2}  {share:10.2}"
     );
 }
