@@ -20,7 +20,7 @@ pub enum Load {
     Saturated,
     /// As light, but nothing waits and nothing is in flight.
     Idle,
-    /// Flows all over the torus that send one after the other: some four packets in flight.
+    /// Flows all over the torus that send one after the other: some four packets are in flight.
     Few,
     /// Flows all over the torus that together use about half of its links.
     Standard,
@@ -99,7 +99,7 @@ impl Case {
 
     /// The state after some hundred cycles, with packets of every flow waiting unless it is idle.
     pub fn state(&self) -> Vec<u32> {
-        let mut state = self.reset();
+        let mut state = self.start();
         let mut delivery = vec![0; self.room()];
         if self.load != Load::Idle {
             state = self.with_waiting(state, 30_000);
@@ -110,22 +110,24 @@ impl Case {
         state
     }
 
-    /// The state that the loads start from. A few packets come one after the other where the flows'
-    /// tokens do.
-    pub fn reset(&self) -> Vec<u32> {
+    /// The state that the load starts from.
+    pub fn start(&self) -> Vec<u32> {
         let mut state = vec![0; self.words()];
         Plain.reset(&self.file, &mut state);
         match self.load {
+            Load::Few => self.spread_tokens(&mut state),
             Load::Waiting => state[waiting_at(0)] = 30_000,
-            Load::Few => {
-                let mut random = Random::new(self.flows as u64);
-                for flow in state[HEADER..].as_chunks_mut::<PER_FLOW>().0[..self.flows].iter_mut() {
-                    flow[7] = random.index(flow[4] as usize) as u32;
-                }
-            }
             _ => {}
         }
         state
+    }
+
+    /// The flows' next tokens come one after the other, over a whole period.
+    fn spread_tokens(&self, state: &mut [u32]) {
+        let flows = state[HEADER..].as_chunks_mut::<PER_FLOW>().0;
+        for (f, flow) in flows[..self.flows].iter_mut().enumerate() {
+            flow[7] = f as u32 * flow[4] / self.flows as u32;
+        }
     }
 
     /// The state, but for so many packets of every flow that wait.

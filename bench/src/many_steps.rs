@@ -52,7 +52,7 @@ pub fn time_beside_step(host: &impl Engine) {
         let step = |words: &mut [u32], delivery: &mut [u32]| host.step(words, delivery);
         let single = steps(&state, CYCLES as usize, case.room(), step);
         print_row(
-            "a cycle",
+            "steps",
             &case,
             sides.alternate(CYCLES as usize, single, many(host, &case, &state)),
         );
@@ -65,9 +65,9 @@ fn many(host: &impl Engine, case: &Case, state: &[u32]) -> impl FnMut() {
     steps(state, 1, room, |words, delivery| host.steps(words, delivery, CYCLES))
 }
 
-/// Pings of all flows from reset, each followed by steps in one call up to the next.
+/// Pings of all flows, each followed by steps in one call up to the next.
 fn stream(host: &impl Engine, case: &Case) -> impl FnMut() {
-    let state = case.reset();
+    let state = case.start();
     let mut memory = state.clone();
     let mut delivery = vec![0; 2 * case.room()];
     let flows: Vec<u32> = (0..case.flows as u32).collect();
