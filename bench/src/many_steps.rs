@@ -7,7 +7,8 @@ use second::host::Engine;
 use std::hint::black_box;
 
 const LOADS: [Load; 4] = [Load::Idle, Load::Few, Load::Standard, Load::Saturated];
-/// The cycles of a call.
+/// The cycles of a call: so many that the processor doesn't learn an 8 by 8 torus's branches by heart, as
+/// it does those of 200.
 const CYCLES: u32 = 400;
 /// A stream's pings of all flows, and the cycles from one to the next.
 const PINGS: usize = 1000;
