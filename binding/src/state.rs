@@ -179,18 +179,24 @@ impl State {
         self.delivered = 0;
         let exits = Answer::of(answer).done()?;
         self.delivered = EXIT_WORDS * exits as usize;
+        Ok(self.deliveries())
+    }
+
+    /// The packets that left in the last step, or in the last steps in one call; none if it was refused.
+    #[inline]
+    pub fn deliveries(&self) -> impl ExactSizeIterator<Item = Delivery> + '_ {
         let words = &self.delivery[..self.delivered];
-        Ok(words.chunks_exact(EXIT_WORDS).map(|exit| Delivery {
+        words.chunks_exact(EXIT_WORDS).map(|exit| Delivery {
             flow: exit[0],
             serial: exit[1],
             entry: exit[2],
             exit: exit[3],
             deflections: exit[4],
-        }))
+        })
     }
 
-    /// Feeds what the last step, or the last steps in one call, delivered to records, one for each flow, which then hold the flow's
-    /// last deliveries, at most `last` of them. Refusals 16 and 17.
+    /// Feeds what the last step, or the last steps in one call, delivered to records, one for each
+    /// flow, which then hold the flow's last deliveries, at most `last` of them. Refusals 16 and 17.
     #[inline]
     pub fn recent(&self, records: &mut [Recent], last: u32) -> Answer {
         let deliveries = &self.delivery[..self.delivered];

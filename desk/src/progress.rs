@@ -22,9 +22,9 @@ impl Progress {
         Progress { shown: false, due: wanted.then(|| Instant::now() + LONG), cycles: 0 }
     }
 
-    /// After each cycle.
-    pub fn cycle(&mut self, clock: u32, offered: u64, left: u64) {
-        self.cycles += 1;
+    /// After each cycle, or so many in one call.
+    pub fn cycles(&mut self, cycles: u32, clock: u32, offered: u64, left: u64) {
+        self.cycles = self.cycles.saturating_add(cycles);
         if self.cycles < CYCLES {
             return;
         }

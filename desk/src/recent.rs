@@ -14,7 +14,7 @@ impl Records {
         Records { records: vec![Recent::default(); flows], last }
     }
 
-    /// Feeds what the last step delivered.
+    /// Feeds what the last step, or the last steps in one call, delivered.
     pub fn feed(&mut self, state: &State) -> Result<(), Broken> {
         let answer = state.recent(&mut self.records, self.last).done();
         answer.map(drop).map_err(|refusal| format!("a step's own deliveries are {refusal}"))

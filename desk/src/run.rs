@@ -1,5 +1,7 @@
 //! `run`: a stream of offers through the archive, each made before the step of its cycle.
 
+mod steps;
+
 use crate::end::End;
 use crate::ending::Ending;
 use crate::input::{self, is_standard, read_plan};
@@ -11,7 +13,7 @@ use crate::progress::Progress;
 use crate::recent::Records;
 use crate::signals::{self, Interruptible};
 use crate::tally::{tallies, Broken, Tally};
-use crate::watch::{watch, watch_end};
+use crate::watch::{watch, watch_end, WATCH};
 use crate::why::Why;
 use hrt::{Delivery, Refusal, State};
 use std::ffi::OsString;
@@ -82,6 +84,10 @@ struct Run<R> {
     next: Option<Offer>,
     ended: bool,
     cycles: Option<u32>,
+    /// Cycles before this clock are stepped one by one.
+    singly: u32,
+    /// The state's words before the last steps in one call.
+    before: Vec<u32>,
     offered: u64,
     left: u64,
     /// Packets waiting or in flight.
@@ -89,9 +95,6 @@ struct Run<R> {
     output: Output,
     progress: Progress,
 }
-
-/// How often the waiting packets' bounds are looked at, besides at each exit and at the end.
-const WATCH: u32 = 1 << 10;
 
 impl<R: Read> Run<R> {
     fn new(state: State, tallies: Vec<Tally>, offers: Offers<R>) -> Run<R> {
@@ -105,6 +108,8 @@ impl<R: Read> Run<R> {
             next: None,
             ended: false,
             cycles: None,
+            singly: 0,
+            before: Vec::new(),
             offered: 0,
             left: 0,
             here: 0,
@@ -128,9 +133,19 @@ impl<R: Read> Run<R> {
             if self.ended && self.here == 0 {
                 return Ok(End::Left);
             }
-            if let Some(end) = self.step()? {
+            if let Some(end) = self.advance()? {
                 return Ok(end);
             }
+        }
+    }
+
+    /// The cycles up to the next offer or the run's end, or some of them. One alone is a step, and so is
+    /// each where reasons are asked for; a step at the last clock is refused.
+    fn advance(&mut self) -> io::Result<Option<End>> {
+        let ahead = self.ahead();
+        match self.why.is_some() || self.state.clock() < self.singly || ahead <= 1 {
+            true => self.step(),
+            false => self.steps(ahead),
         }
     }
 
@@ -209,27 +224,36 @@ impl<R: Read> Run<R> {
             Ok(left) => left,
             Err(end) => return Ok(Some(end)),
         };
-        self.left += left;
-        self.here -= left;
-        if let Err(broken) = self.keep(left == 0) {
+        self.count(1, left);
+        if let Err(broken) = self.keep() {
             return Ok(Some(End::Broken(broken)));
         }
-        let clock = self.state.clock();
-        self.progress.cycle(clock, self.offered, self.left);
-        if clock.is_multiple_of(WATCH) {
+        if self.state.clock().is_multiple_of(WATCH) {
             let watched = watch(&self.state, &self.tallies, self.here);
             return Ok(watched.err().map(End::Broken));
         }
         Ok(None)
     }
 
-    /// What is kept of the last step: its reason, and its deliveries unless it was idle.
-    fn keep(&mut self, is_idle: bool) -> Result<(), Broken> {
+    /// Counts the packets that left in so many cycles.
+    fn count(&mut self, cycles: u32, left: u64) {
+        self.left += left;
+        self.here -= left;
+        self.progress.cycles(cycles, self.state.clock(), self.offered, self.left);
+    }
+
+    /// What is kept of the last step: its reason, and its deliveries.
+    fn keep(&mut self) -> Result<(), Broken> {
         if let Some(why) = &mut self.why {
             why.count(&self.state)?;
         }
+        self.feed()
+    }
+
+    /// Feeds what the last step, or the last steps in one call, delivered to the records.
+    fn feed(&mut self) -> Result<(), Broken> {
         match &mut self.records {
-            Some(records) if !is_idle => records.feed(&self.state),
+            Some(records) if self.state.deliveries().len() > 0 => records.feed(&self.state),
             _ => Ok(()),
         }
     }
@@ -246,8 +270,8 @@ impl<R: Read> Run<R> {
     }
 }
 
-/// Enters what a step delivered in the tallies and prints it: how many left, or why the run ends. Inlined
-/// in each kind of step, so that none has a call more.
+/// Enters what a step, or many in one call, delivered in the tallies and prints it: how many left, or why
+/// the run ends. Inlined in each kind of step, so that none has a call more.
 #[inline(always)]
 fn leave(
     exits: Result<impl Iterator<Item = Delivery>, Refusal>,
@@ -256,8 +280,7 @@ fn leave(
 ) -> io::Result<Result<u64, End>> {
     let exits = match exits {
         Ok(exits) => exits,
-        Err(refusal @ Refusal { number: 11, .. }) => return Ok(Err(End::Refused(refusal))),
-        Err(refusal) => return Ok(Err(End::Broken(format!("a step is {refusal}")))),
+        Err(refusal) => return Ok(Err(refused_step(refusal))),
     };
     let mut left = 0;
     for exit in exits {
@@ -268,6 +291,13 @@ fn leave(
         left += 1;
     }
     Ok(Ok(left))
+}
+
+fn refused_step(refusal: Refusal) -> End {
+    match refusal.number {
+        11 => End::Refused(refusal),
+        _ => End::Broken(format!("a step is {refusal}")),
+    }
 }
 
 #[cfg(test)]

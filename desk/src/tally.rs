@@ -84,16 +84,21 @@ impl Tally {
         self.left += 1;
         self.longest_flight = self.longest_flight.max(Some(flight));
         self.count_wait(exit.serial, packet, exit.entry)?;
-        if flight > self.flight_bound {
-            return Err(self.broken(
-                exit.serial,
-                "flight",
-                flight.into(),
-                self.flight_bound.into(),
-            ));
-        }
+        self.keeps_flight(exit.serial, flight.into())?;
         self.forget(exit.serial);
         Ok(packet.offer)
+    }
+
+    /// A packet that has left was there and kept its bounds. Nothing is counted.
+    pub fn check_exit(&self, exit: &Delivery) -> Result<(), Broken> {
+        self.check_entry(exit.serial, exit.entry)?;
+        self.keeps_flight(exit.serial, exit.flight().into())
+    }
+
+    /// A packet that entered in this cycle was there and hadn't waited past its bound. Nothing is counted.
+    pub fn check_entry(&self, serial: u32, entry: u32) -> Result<(), Broken> {
+        let wait = self.wait(serial, self.find(serial)?, entry)?;
+        self.spare(serial, wait).map(drop)
     }
 
     /// A packet that is in flight at the end: its wait counts too.
@@ -104,11 +109,7 @@ impl Tally {
 
     /// A packet in flight that hasn't left before this cycle can still keep its flight bound.
     pub fn check_flight(&self, packet: &Packet, clock: u32) -> Result<(), Broken> {
-        let least = u64::from(clock - packet.entry) + 2;
-        match least > self.flight_bound.into() {
-            true => Err(self.broken(packet.serial, "flight", least, self.flight_bound.into())),
-            false => Ok(()),
-        }
+        self.keeps_flight(packet.serial, u64::from(clock - packet.entry) + 2)
     }
 
     /// No packet of those waiting has waited past its bound; `waiting` of them are the last.
@@ -159,22 +160,40 @@ impl Tally {
     }
 
     fn count_wait(&mut self, serial: u32, packet: Accepted, entry: u32) -> Result<(), Broken> {
-        let Some(cycles) = entry.checked_sub(packet.offer) else {
-            return Err(format!("packet {serial} of flow {} entered unoffered", self.flow));
-        };
-        let bound = self.bound(packet);
-        let wait = Wait { cycles, bound };
+        let wait = self.wait(serial, packet, entry)?;
         if self.longest_wait.is_none_or(|longest| wait.is_over(longest)) {
             self.longest_wait = Some(wait);
         }
-        let Some(bound) = bound else {
-            return Ok(());
-        };
-        let Some(spare) = bound.checked_sub(cycles.into()) else {
-            return Err(self.broken(serial, "wait", cycles.into(), bound));
-        };
-        self.nearest = Some(self.nearest.map_or(spare, |nearest| nearest.min(spare)));
+        let spare = self.spare(serial, wait)?;
+        self.nearest = self.nearest.into_iter().chain(spare).min();
         Ok(())
+    }
+
+    /// The wait of a packet that entered in this cycle.
+    fn wait(&self, serial: u32, packet: Accepted, entry: u32) -> Result<Wait, Broken> {
+        match entry.checked_sub(packet.offer) {
+            Some(cycles) => Ok(Wait { cycles, bound: self.bound(packet) }),
+            None => Err(format!("packet {serial} of flow {} entered unoffered", self.flow)),
+        }
+    }
+
+    /// By how much a packet's wait stayed below its bound, if it has one.
+    fn spare(&self, serial: u32, wait: Wait) -> Result<Option<u64>, Broken> {
+        let Some(bound) = wait.bound else {
+            return Ok(None);
+        };
+        match bound.checked_sub(wait.cycles.into()) {
+            Some(spare) => Ok(Some(spare)),
+            None => Err(self.broken(serial, "wait", wait.cycles.into(), bound)),
+        }
+    }
+
+    fn keeps_flight(&self, serial: u32, flight: u64) -> Result<(), Broken> {
+        let bound = self.flight_bound.into();
+        match flight > bound {
+            true => Err(self.broken(serial, "flight", flight, bound)),
+            false => Ok(()),
+        }
     }
 
     /// The q of each packet that hasn't left, by serial.
