@@ -364,6 +364,31 @@ mod tests {
     }
 
     #[test]
+    fn many_steps_are_as_single_ones() {
+        let mut single = State::fresh(4, 4, &[Flow { period: 1, ..FLOW }, FLOW]).unwrap();
+        single.offer_set(&[0; 600]).done().unwrap();
+        single.offer_set(&[1; 3]).done().unwrap();
+        let mut many = single.clone();
+        let mut ended_early = 0;
+        for cycles in [0, 1, 7, 60, 1000, 1000, 1000] {
+            let until = many.clock() + cycles;
+            let left: Vec<Delivery> = many.steps(cycles).unwrap().collect();
+            assert_eq!(many.deliveries().collect::<Vec<_>>(), left);
+            let mut alone = Vec::new();
+            while single.clock() < many.clock() {
+                alone.extend(single.step().unwrap());
+            }
+            assert_eq!((left, &many), (alone, &single));
+            ended_early += u32::from(many.clock() < until);
+        }
+        assert_eq!(ended_early, 2);
+        assert_eq!(many.steps(LAST_CLOCK).unwrap().len(), 0);
+        assert_eq!(many.clock(), LAST_CLOCK);
+        assert_eq!(many.steps(0).err(), Some(Refusal { number: 11, place: 0 }));
+        assert_eq!(many.deliveries().len(), 0);
+    }
+
+    #[test]
     fn a_step_tells_why_a_flow_waits() {
         let mut state = State::fresh(4, 4, &[FLOW, FLOW]).unwrap();
         let mut reasons = [9; 3];

@@ -10,7 +10,7 @@ use std::io::{self, Read};
 
 /// Where packets are waiting or in flight, a call goes over at most so many words of states, one state for
 /// each cycle. That takes some tenth of a second, so that an interrupt doesn't wait longer.
-const WORK: u32 = 1 << 26;
+const WORK: u32 = 1 << 27;
 
 impl<R: Read> Run<R> {
     /// How many cycles come before the next offer, the cycle that was asked for and the last clock.

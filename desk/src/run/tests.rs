@@ -11,7 +11,11 @@ fn run_from(clock: u32, offers: &'static str) -> Run<&'static [u8]> {
 }
 
 fn run_of<R: Read>(clock: u32, offers: R) -> Run<R> {
-    let flow = Flow { xs: 0, ys: 0, xd: 3, yd: 3, period: 10, burst: 1 };
+    run_with(10, clock, offers)
+}
+
+fn run_with<R: Read>(period: u32, clock: u32, offers: R) -> Run<R> {
+    let flow = Flow { xs: 0, ys: 0, xd: 3, yd: 3, period, burst: 1 };
     let fresh = State::fresh(4, 4, &[flow]).unwrap();
     let plan = Plan::read(fresh.write(b"").unwrap()).unwrap();
     let tallies = tallies(&plan, &fresh).unwrap();
@@ -188,4 +192,70 @@ fn a_packet_that_waits_past_its_bound_is_told() {
     assert_eq!(end, End::Cycles);
     let broken = "packet 2 of flow 0: wait 6, bound 3".to_string();
     assert_eq!(run.last_checks(end), End::Broken(broken));
+}
+
+/// How a run ends, and what it leaves: its state, its counts and its flow's tally and record.
+fn ran(mut run: Run<impl Read>) -> impl PartialEq + std::fmt::Debug {
+    run.records = Some(Records::new(1, 3));
+    let end = run.go_to_end().unwrap();
+    let end = run.last_checks(end);
+    let Tally { offered, left, longest_wait, nearest, longest_flight, .. } = run.tallies[0];
+    let tally = (offered, left, longest_wait, nearest, longest_flight);
+    let record = run.records.unwrap().cells(0);
+    (end, run.state.words().to_vec(), (run.offered, run.left), tally, record)
+}
+
+#[test]
+fn many_steps_in_one_call_are_as_single_ones() {
+    let streams =
+        ["0 0", "0 0\n1 0\n1 0", "3 0\n4 0\n5000 0 0 0 0", "1020 0\n1024 0\n9000 0\n9000 1"];
+    // Waits and flights over the bounds are told when the packet leaves, in the cycles in which all are
+    // looked at, or at the end.
+    let bounds = [(None, 8), (Some(1), 7), (Some(1), 8), (Some(600), 8), (Some(1500), 8)];
+    for (period, stream) in [10, 1023, 1024, 3000].into_iter().flat_map(|p| streams.map(|s| (p, s)))
+    {
+        for (window, flight) in bounds {
+            for cycles in [None, Some(1024), Some(1025), Some(2500), Some(9002)] {
+                let run = |singly| {
+                    let run = run_with(period, 0, stream.as_bytes());
+                    let tallies = vec![Tally::new(0, 1, window, flight)];
+                    ran(Run { tallies, cycles, singly, ..run })
+                };
+                assert_eq!(run(0), run(LAST_CLOCK), "{period} {stream} {window:?} {cycles:?}");
+            }
+        }
+    }
+}
+
+#[test]
+fn idle_cycles_are_leapt_over() {
+    let mut run = run_from(0, "7 0\n4000000000 0\n4294967288 0");
+    assert_eq!(run.go_to_end().unwrap(), End::Left);
+    assert_eq!((run.state.clock(), run.left), (LAST_CLOCK, 3));
+    let mut run = run_with(16_777_215, 0, &b"0 0 0 0"[..]);
+    assert_eq!(run.go_to_end().unwrap(), End::Left);
+    assert_eq!((run.state.clock(), run.left), (2 * 16_777_215 + 7, 3));
+}
+
+#[test]
+fn a_call_that_ends_early_is_gone_on_from() {
+    let offers = "0 0".to_string() + &" 0".repeat(999);
+    let mut run = run_with(1, 0, offers.as_bytes());
+    assert_eq!(run.go_to_end().unwrap(), End::Left);
+    assert_eq!((run.state.clock(), run.left), (1006, 1000));
+}
+
+#[test]
+fn a_call_ends_where_it_should() {
+    let mut run = run_from(5, "");
+    let ahead = |next: Option<u32>, cycles, run: &mut Run<_>| {
+        run.next = next.map(|cycle| Offer { cycle, of: Of::Flow(0) });
+        run.cycles = cycles;
+        run.ahead()
+    };
+    assert_eq!(ahead(None, None, &mut run), LAST_CLOCK - 5);
+    assert_eq!(ahead(Some(9), None, &mut run), 4);
+    assert_eq!(ahead(Some(9), Some(7), &mut run), 2);
+    assert_eq!(ahead(Some(9), Some(12), &mut run), 4);
+    assert_eq!(ahead(None, Some(LAST_CLOCK), &mut run), LAST_CLOCK - 5);
 }
