@@ -1,8 +1,9 @@
 //! What `run` prints, by the packet book's lines, U1's records, U4's sets of flows, U6's trial generator
 //! and U7's reasons.
 
+use super::idle;
 use super::why::Why;
-use crate::book::{Book, Delivery, Line};
+use crate::book::{Book, Delivery, LAST_CLOCK, Line};
 use crate::offers::MOST_WAITING;
 use crate::plan::{Plan, Refusal};
 use crate::recent::{Record, feed};
@@ -19,6 +20,16 @@ pub enum Entry {
     Trial { cycle: i64, flow: u32 },
     /// A line that is no offer of this plan, or goes back.
     Fault,
+}
+
+impl Entry {
+    /// The cycle of an offer.
+    pub fn cycle(&self) -> Option<i64> {
+        match self {
+            Entry::Offer { cycle, .. } | Entry::Trial { cycle, .. } => Some(*cycle),
+            Entry::Fault => None,
+        }
+    }
 }
 
 /// How a run is called.
@@ -47,6 +58,9 @@ struct Run {
     /// How it ended.
     end: &'static str,
 }
+
+/// How a run ends at the last clock, whose step is refused with 11.
+pub const NO_FURTHER: &str = "the clock goes no further";
 
 /// What is printed for these entries.
 pub fn printed(plan: &Plan, entries: &[Entry], options: Options) -> String {
@@ -81,7 +95,7 @@ fn ran(plan: &Plan, entries: &[Entry], options: Options) -> Run {
         }
         while let Some(entry) = entries.peek() {
             match entry {
-                Entry::Offer { cycle, .. } | Entry::Trial { cycle, .. } if *cycle > clock => break,
+                entry if entry.cycle() > Some(clock) => break,
                 Entry::Offer { flows, .. } => run.offer(flows),
                 Entry::Trial { flow, .. } => run.offer_trial(*flow),
                 Entry::Fault => {
@@ -95,6 +109,15 @@ fn ran(plan: &Plan, entries: &[Entry], options: Options) -> Run {
         if entries.peek().is_none() && all_left {
             run.end = "everything has left";
             return run;
+        }
+        if clock == LAST_CLOCK {
+            run.end = NO_FURTHER;
+            return run;
+        }
+        let next = entries.peek().and_then(|entry| entry.cycle());
+        let until = [next, options.cycles].into_iter().flatten().fold(LAST_CLOCK, i64::min);
+        if run.why.is_none() && idle::pass(&mut run.book, until) {
+            continue;
         }
         for delivery in run.step() {
             let [flow, serial, ..] = delivery;

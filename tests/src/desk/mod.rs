@@ -1,13 +1,15 @@
 //! The desk program beside the second simulator: what `run` prints for random plans and streams, the
-//! round trip of `show` and `plan`, each fault of texts and streams, long periods, lines of several
-//! flows and of the trial generator, why a flow waits, and how it ends.
+//! round trip of `show` and `plan`, each fault of texts and streams, long periods, long pauses, lines of
+//! several flows and of the trial generator, why a flow waits, and how it ends.
 
 mod ends;
 pub mod expected;
 mod faults;
+mod idle;
 mod periods;
 pub mod program;
 mod sets;
+mod sparse;
 mod streams;
 mod texts;
 mod trials;
@@ -16,6 +18,9 @@ pub mod why;
 use crate::compare::Tally;
 use crate::compare::parts::{Extent, rounds};
 use program::Program;
+
+/// Of a hundred rounds so many have a stream with long pauses too.
+const SPARSE: i64 = 40;
 
 /// Runs the whole part. The program writes in a folder of its own.
 pub fn run(program: &str, seed: u64, extent: Extent) -> Tally {
@@ -46,6 +51,9 @@ pub fn calls(program: &Program, tally: &mut Tally, extent: Extent) {
     periods::texts(program, tally);
     periods::refused(program, tally);
     periods::runs(program, tally);
+    sparse::far(program, tally);
+    sparse::many_exits(program, tally);
+    sparse::last_clock(program, tally);
     trials::alone(program, tally);
     trials::beside_the_sonar(program, tally);
     trials::full_queue(program, tally);
@@ -54,5 +62,8 @@ pub fn calls(program: &Program, tally: &mut Tally, extent: Extent) {
     rounds("desk", tally, extent, |tally, random, sx, sy| {
         texts::round(program, tally, random, sx, sy);
         streams::round(program, tally, random, sx, sy);
+        if random.percent(SPARSE) {
+            sparse::round(program, tally, random, sx, sy);
+        }
     });
 }

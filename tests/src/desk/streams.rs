@@ -1,9 +1,10 @@
 //! Random plans and streams through `run`.
 
-use super::expected::{Entry, Options, printed};
+use super::expected::{Entry, NO_FURTHER, Options, printed};
 use super::program::{Program, same_lines, write};
 use super::sets::Fault;
 use super::trials;
+use crate::book::LAST_CLOCK;
 use crate::compare::Tally;
 use crate::plan::{Flow, Plan};
 use crate::random::{self, Random};
@@ -65,7 +66,7 @@ pub fn round(program: &Program, tally: &mut Tally, random: &mut Random, sx: i64,
     let flows = random.from(1, most) as usize;
     let plan = random::plan(random, sx, sy, flows);
     let lines = if random.percent(3) { 5000 } else { random.index(200) };
-    let stream = stream(random, &plan, lines);
+    let stream = stream(random, &plan, lines, SHORT_PAUSES);
     let bounded = random.percent(30) || is_long(&plan, &stream);
     let cycles = bounded.then(|| random.from(0, 2000));
     let recent = random.percent(40).then(|| 1 + random.index(16));
@@ -86,23 +87,35 @@ fn is_long(plan: &Plan, stream: &Stream) -> bool {
     plan.flows.iter().any(|flow| flow.period * packets > 20_000)
 }
 
+/// The cycle from which on a stream has lines, the chance in a hundred of a pause before a line, and the
+/// longest.
+#[derive(Clone, Copy)]
+pub struct Pauses {
+    pub first: i64,
+    pub chance: i64,
+    pub longest: i64,
+}
+
+const SHORT_PAUSES: Pauses = Pauses { first: 0, chance: 2, longest: 300 };
+
 /// Lines of one flow or several and of the trial generator, with blanks, comments and either end of
 /// line.
-fn stream(random: &mut Random, plan: &Plan, lines: usize) -> Stream {
+pub fn stream(random: &mut Random, plan: &Plan, lines: usize, pauses: Pauses) -> Stream {
     let count = plan.flows.len();
     let mut stream = Stream::of(Vec::new());
     let newline = random.pick(&["\n", "\r\n"]);
     let gap = random.pick(&[0, 1, 3, 40]);
     let several = random.pick(&[0, 10, 50]);
     let trials = random.pick(&[0, 10, 60]);
-    let mut cycle = 0;
+    let mut cycle = pauses.first;
     for _ in 0..lines {
         if random.percent(50) {
             cycle += random.from(0, gap);
         }
-        if random.percent(2) {
-            cycle += random.from(0, 300);
+        if random.percent(pauses.chance) {
+            cycle += random.from(0, pauses.longest);
         }
+        cycle = cycle.min(LAST_CLOCK - 1);
         let entry = if random.percent(trials) {
             Entry::Trial { cycle, flow: random.index(count) as u32 }
         } else {
@@ -200,10 +213,13 @@ pub fn compare(
     let with = (&file, options, &stream.text);
     let expected = printed(plan, &stream.entries, options);
     same_lines(tally, &with, &expected, &got.out);
-    let fault = expected.ends_with("at a faulty line\n");
-    let told = stream.told.as_deref().filter(|_| fault).unwrap_or_default();
-    assert_eq!(got.err, told, "seed {}: {with:?}", tally.seed);
-    assert_eq!(got.status, if fault { 2 } else { 0 }, "seed {}: {with:?}", tally.seed);
+    let ended = |how: &str| expected.trim_end().ends_with(how);
+    let (status, told) = match stream.told.as_deref() {
+        Some(told) if ended("at a faulty line") => (2, told),
+        _ if ended(NO_FURTHER) => (1, "hrt: step: refused 11 0; ./hrt explain 11 says why\n"),
+        _ => (0, ""),
+    };
+    assert_eq!((got.status, got.err.as_str()), (status, told), "seed {}: {with:?}", tally.seed);
 }
 
 /// More packets than may wait: some are refused, and the run goes on. It ends before a packet would
