@@ -6,6 +6,7 @@ mod faults {
     pub mod files;
     pub mod lines;
     pub mod periods;
+    pub mod sparse;
     pub mod trial_lines;
     pub mod why;
 }
@@ -28,6 +29,7 @@ fn faults_are_noticed() {
         faults::desk::FAULTS,
         faults::lines::FAULTS,
         faults::periods::FAULTS,
+        faults::sparse::FAULTS,
         faults::trial_lines::FAULTS,
         faults::why::FAULTS,
     ];

@@ -210,7 +210,7 @@ pub fn of_lines(output: Output, change: impl Fn(&str) -> String) -> Output {
 }
 
 /// Changes the numbers of each exit's line.
-fn of_exits(output: Output, change: impl Fn(&mut Vec<i64>)) -> Output {
+pub fn of_exits(output: Output, change: impl Fn(&mut Vec<i64>)) -> Output {
     of_lines(output, |line| match exit(line) {
         Some(mut numbers) => {
             change(&mut numbers);
@@ -221,7 +221,7 @@ fn of_exits(output: Output, change: impl Fn(&mut Vec<i64>)) -> Output {
 }
 
 /// The eight numbers of an exit's line.
-fn exit(line: &str) -> Option<Vec<i64>> {
+pub fn exit(line: &str) -> Option<Vec<i64>> {
     let numbers: Result<Vec<i64>, _> = line.split(' ').map(str::parse).collect();
     numbers.ok().filter(|numbers| numbers.len() == 8)
 }
@@ -247,7 +247,7 @@ pub fn of_rows(output: Output, change: impl Fn(&mut Vec<String>)) -> Output {
 }
 
 /// Changes the cells of each flow's row where recent flights are asked for.
-fn of_recent(output: Output, change: impl Fn(&mut Vec<String>)) -> Output {
+pub fn of_recent(output: Output, change: impl Fn(&mut Vec<String>)) -> Output {
     of_rows(output, |row| {
         if row.len() == 15 {
             change(row);

@@ -47,7 +47,7 @@ pub fn many_exits(program: &Program, tally: &mut Tally) {
     let plan = Plan { sx: 3, sy: 3, flows: (0..9).map(flow).collect() };
     let all = |packets: u32| (0..9 * packets).map(|at| at % 9).collect::<Vec<_>>();
     let lines = [(0, all(60)), (1, all(1)), (3_000, all(40)), (3_001, vec![0])];
-    each(program, tally, &plan, &lines, &[70, 3_020]);
+    each(program, tally, &plan, &lines, &[3_020, 70]);
 }
 
 /// The last cycles: packets that leave just in time, that are in flight at the end, and that wait.
