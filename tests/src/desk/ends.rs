@@ -1,12 +1,14 @@
 //! How the program ends: wrong words, files that can't be read or written, an interrupt, a closed
 //! pipe, and a stream that is far longer than the memory that it is given.
 
-use super::program::{Output, Program, same_lines, write};
+use super::program::{Output, Program, same_lines, signal, write};
 use super::why::Why;
 use crate::compare::Tally;
-use std::fs;
+use crate::plan::{Flow, Plan};
 use std::io::{BufWriter, Write};
 use std::process::{Command, Stdio};
+use std::time::{Duration, Instant};
+use std::{fs, thread};
 
 const MODE: &[u8] = b"torus 4 4\nflow 1 0 2 0 10 1\nflow 0 0 3 0 10 1\n";
 
@@ -22,6 +24,7 @@ pub fn calls(program: &Program, tally: &mut Tally) {
 /// What only a running program shows.
 pub fn processes(program: &Program) {
     closed_pipe(program);
+    busy(program);
     long_stream(program);
 }
 
@@ -193,6 +196,32 @@ fn closed_pipe(program: &Program) {
     drop(stdin);
     let output = child.wait_with_output().unwrap();
     assert_eq!((output.stderr, output.status.code()), (Vec::new(), None));
+}
+
+/// A signal while all flows of the largest torus wait and their packets keep it busy for long: it answers
+/// within a second.
+fn busy(program: &Program) {
+    let flow = |at: i64| {
+        let (x, y) = (at % 16, at / 16);
+        Flow::from_numbers([x, y, (x + 7) % 16, (y + 9) % 16, 6_000 + 37 * at, 1])
+    };
+    let plan = Plan { sx: 16, sy: 16, flows: (0..256).map(flow).collect() };
+    write(&program.file("run.plan"), &plan.file(b""));
+    let flows: String = (0..256).map(|flow| format!(" {flow}")).collect();
+    let line = format!("0{}\n", flows.repeat(60));
+    for (name, status) in [("INT", 130), ("TERM", 143)] {
+        let mut child = program.start(&["run", "run.plan", "--summary"]);
+        let mut stdin = child.stdin.take().unwrap();
+        stdin.write_all(line.repeat(100).as_bytes()).unwrap();
+        drop(stdin);
+        thread::sleep(Duration::from_millis(300));
+        signal(&child, name);
+        let sent = Instant::now();
+        let output = child.wait_with_output().unwrap();
+        assert!(sent.elapsed() < Duration::from_secs(1), "{name}: {:?}", sent.elapsed());
+        assert!(output.stdout.ends_with(b": interrupted\n"), "{name}: {output:?}");
+        assert_eq!((output.status.code(), output.stderr), (Some(status), Vec::new()));
+    }
 }
 
 /// Offers that would take more memory than there is if they were kept, as lines or as packets.

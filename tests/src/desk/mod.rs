@@ -29,6 +29,7 @@ pub fn run(program: &str, seed: u64, extent: Extent) -> Tally {
     calls(&program, &mut tally, extent);
     ends::processes(&program);
     periods::longest(&program);
+    sparse::pings(&program);
     tally
 }
 

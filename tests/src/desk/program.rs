@@ -122,12 +122,17 @@ fn interrupted(mut child: Child, input: &[u8], lines: usize) -> process::Output 
     for _ in 0..lines {
         stdout.read_until(b'\n', &mut out).unwrap();
     }
-    let signal = Command::new("kill").args(["-INT", &child.id().to_string()]).status().unwrap();
-    assert!(signal.success());
+    signal(&child, "INT");
     stdout.read_to_end(&mut out).unwrap();
     let output = child.wait_with_output().unwrap();
     drop(stdin);
     process::Output { stdout: out, ..output }
+}
+
+/// Sends a signal of this name.
+pub fn signal(child: &Child, name: &str) {
+    let kill = Command::new("kill").args(["-s", name, &child.id().to_string()]).status().unwrap();
+    assert!(kill.success());
 }
 
 impl Drop for Program {

@@ -2,12 +2,13 @@
 //! many exits between two offers, and the clock's end.
 
 use super::expected::{Entry, Options};
-use super::program::Program;
+use super::program::{Program, write};
 use super::streams::{Pauses, Stream, compare, sample, stream};
 use crate::book::LAST_CLOCK;
 use crate::compare::Tally;
 use crate::plan::{Flow, Plan};
 use crate::random::{self, LONG_PERIODS, Random};
+use std::time::{Duration, Instant};
 
 /// Runs of these lines to their end and to each of these cycles, with exits and recent flights.
 fn each(
@@ -56,6 +57,24 @@ pub fn last_clock(program: &Program, tally: &mut Tally) {
         let lines = [(3, vec![0]), (LAST_CLOCK - before, vec![1, 0, 1])];
         each(program, tally, &sample(), &lines, &[LAST_CLOCK - 1, LAST_CLOCK]);
     }
+}
+
+/// A thousand pings of all flows of 8 by 8 in 100,000,000 cycles run in half a second.
+pub fn pings(program: &Program) {
+    let flow = |at: i64| {
+        let (x, y) = (at % 8, at / 8);
+        Flow::from_numbers([x, y, (5 * x + y) % 8, (3 * y + 1) % 8, 2_000, 1])
+    };
+    let plan = Plan { sx: 8, sy: 8, flows: (0..64).map(flow).collect() };
+    write(&program.file("run.plan"), &plan.file(b""));
+    let stream = Stream::of((1..=1_000).map(|ping| (ping * 100_000, (0..64).collect())).collect());
+    let began = Instant::now();
+    let got = program.answer(&["run", "run.plan", "--summary"], stream.text.as_bytes());
+    assert!(began.elapsed() < Duration::from_millis(500), "{:?}", began.elapsed());
+    let text = String::from_utf8(got.out).unwrap();
+    let left = |row: &str| row.split_whitespace().nth(3).unwrap().parse().unwrap_or(0);
+    assert_eq!(text.lines().map(left).sum::<u64>(), 64_000, "{text}");
+    assert_eq!((got.status, got.err.as_str()), (0, ""));
 }
 
 /// A stream with long pauses of a random plan, often with slow flows.
