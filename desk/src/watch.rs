@@ -2,7 +2,7 @@
 //! or waits past its bound.
 
 use crate::tally::{Broken, Tally};
-use hrt::State;
+use hrt::{Delivery, Packet, State};
 
 /// How often the bounds of packets in flight and waiting are looked at, besides at each exit and at the
 /// end: where the clock is a multiple of this.
@@ -28,27 +28,27 @@ pub fn watch(state: &State, tallies: &[Tally], here: u64) -> Result<(), Broken> 
     }
 }
 
-/// So it was in each cycle of the last steps in one call, which began at this clock with `here` packets
-/// waiting or in flight: each step by itself would have had nothing to tell. A packet that kept its bound
-/// when it left, entered or was looked at last was within it in all cycles before.
-pub fn watch_steps(state: &State, tallies: &[Tally], start: u32, here: u64) -> Result<(), Broken> {
+/// Is it certain that each of the last steps in one call, which began at this clock with `here` packets
+/// waiting or in flight, would have had nothing to tell by itself? A packet that kept its bound when it
+/// left, entered or is looked at now was within it in all cycles before.
+pub fn all_kept(state: &State, tallies: &[Tally], start: u32, here: u64) -> bool {
     let clock = state.clock();
-    for exit in state.deliveries() {
-        if !(start..clock).contains(&exit.exit) {
-            return Err(format!("cycles {start} to {clock} have an exit of {}", exit.exit));
-        }
-        tallies[exit.flow as usize].check_exit(&exit)?;
-    }
-    if start / WATCH == clock / WATCH {
-        return Ok(());
-    }
-    for packet in state.packets() {
-        tallies[packet.flow as usize].check_entry(packet.serial, packet.entry)?;
-    }
-    watch(state, tallies, here.wrapping_sub(state.deliveries().len() as u64))
+    let left = |exit: Delivery| {
+        let tally = &tallies[exit.flow as usize];
+        (start..clock).contains(&exit.exit) && tally.check_exit(&exit).is_ok()
+    };
+    let entered = |packet: Packet| {
+        tallies[packet.flow as usize].check_entry(packet.serial, packet.entry).is_ok()
+    };
+    let found = || {
+        let here = here.checked_sub(state.deliveries().len() as u64);
+        here.is_some_and(|here| watch(state, tallies, here).is_ok())
+    };
+    let is_watched = start / WATCH != clock / WATCH;
+    state.deliveries().all(left) && (!is_watched || state.packets().all(entered) && found())
 }
 
-/// The same at the end of a run, with the bounds of all packets that are in flight or waiting then.
+/// What `watch` looks for, at the end of a run, with the bounds of all packets that are in flight or waiting then.
 pub fn watch_end(state: &State, tallies: &mut [Tally], here: u64) -> Result<(), Broken> {
     for packet in state.packets() {
         tallies[packet.flow as usize].see(&packet)?;

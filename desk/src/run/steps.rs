@@ -3,9 +3,9 @@
 
 use super::{leave, refused_step, Run};
 use crate::end::End;
-use crate::watch::{watch_steps, WATCH};
+use crate::watch::{all_kept, WATCH};
 use hrt::limits::LAST_CLOCK;
-use hrt::{Refusal, State};
+use hrt::State;
 use std::io::{self, Read};
 
 /// Where packets are waiting or in flight, a call goes over at most so many words of states, one state for
@@ -29,7 +29,7 @@ impl<R: Read> Run<R> {
             return Ok(Some(refused_step(refusal)));
         }
         let cycles = self.state.clock() - start;
-        if watch_steps(&self.state, &self.tallies, start, self.here).is_err() {
+        if !all_kept(&self.state, &self.tallies, start, self.here) {
             return self.apart(start, cycles);
         }
         if let Some(fewer) = self.to_the_end(start).filter(|&fewer| fewer < cycles) {
@@ -47,7 +47,7 @@ impl<R: Read> Run<R> {
         }
     }
 
-    /// How many of so many cycles are taken in one call. With nobody here they are idle, and take no time.
+    /// How many of so many cycles are taken in one call. They are idle where no packet is here.
     fn at_once(&self, ahead: u32) -> u32 {
         match self.here {
             0 => ahead,
@@ -71,19 +71,20 @@ impl<R: Read> Run<R> {
             return self.again(cycles / 2);
         }
         self.singly = start + cycles;
-        Ok(self.take_back().err().map(refused_step))
+        Ok(self.take_back().err())
     }
 
     /// Takes the last call back, and makes one of so many cycles.
     fn again(&mut self, cycles: u32) -> io::Result<Option<End>> {
         match self.take_back() {
             Ok(()) => self.steps(cycles),
-            Err(refusal) => Ok(Some(refused_step(refusal))),
+            Err(end) => Ok(Some(end)),
         }
     }
 
-    fn take_back(&mut self) -> Result<(), Refusal> {
-        self.state = State::of_words(self.before.clone())?;
+    fn take_back(&mut self) -> Result<(), End> {
+        let broken = |refusal| End::Broken(format!("the words of a state are {refusal}"));
+        self.state = State::of_words(self.before.clone()).map_err(broken)?;
         Ok(())
     }
 }

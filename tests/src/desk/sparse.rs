@@ -53,7 +53,7 @@ pub fn many_exits(program: &Program, tally: &mut Tally) {
 
 /// The last cycles: packets that leave just in time, that are in flight at the end, and that wait.
 pub fn last_clock(program: &Program, tally: &mut Tally) {
-    for before in [1, 2, 3, 4, 5, 6, 12] {
+    for before in [1, 3, 4, 12] {
         let lines = [(3, vec![0]), (LAST_CLOCK - before, vec![1, 0, 1])];
         each(program, tally, &sample(), &lines, &[LAST_CLOCK - 1, LAST_CLOCK]);
     }
