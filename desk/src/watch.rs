@@ -28,6 +28,17 @@ pub fn watch(state: &State, tallies: &[Tally], here: u64) -> Result<(), Broken> 
     }
 }
 
+/// The same at the end of a run, with the bounds of all packets that are in flight or waiting then.
+pub fn watch_end(state: &State, tallies: &mut [Tally], here: u64) -> Result<(), Broken> {
+    for packet in state.packets() {
+        tallies[packet.flow as usize].see(&packet)?;
+    }
+    for (flow, tally) in tallies.iter().enumerate() {
+        tally.check_waiting(state.clock(), state.waiting(flow))?;
+    }
+    watch(state, tallies, here)
+}
+
 /// Is it certain that each of the last steps in one call, which began at this clock with `here` packets
 /// waiting or in flight, would have had nothing to tell by itself? A packet that kept its bound when it
 /// left, entered or is looked at now was within it in all cycles before.
@@ -46,15 +57,4 @@ pub fn all_kept(state: &State, tallies: &[Tally], start: u32, here: u64) -> bool
     };
     let is_watched = start / WATCH != clock / WATCH;
     state.deliveries().all(left) && (!is_watched || state.packets().all(entered) && found())
-}
-
-/// What `watch` looks for, at the end of a run, with the bounds of all packets that are in flight or waiting then.
-pub fn watch_end(state: &State, tallies: &mut [Tally], here: u64) -> Result<(), Broken> {
-    for packet in state.packets() {
-        tallies[packet.flow as usize].see(&packet)?;
-    }
-    for (flow, tally) in tallies.iter().enumerate() {
-        tally.check_waiting(state.clock(), state.waiting(flow))?;
-    }
-    watch(state, tallies, here)
 }
