@@ -31,7 +31,11 @@ pub const FAULTS: &[Fault] = &[
         "columns deflections.",
     ),
     ("exits of a cycle in another order", exits_exchanged, "columns flow"),
-    ("offers after the step of their cycle", late_offers, "columns exit entry wait."),
+    (
+        "offers after the step of their cycle",
+        |desk, words, input| late_offers(desk, words, input, |_| true),
+        "columns exit entry wait.",
+    ),
     (
         "left counted at the entry",
         |desk, words, input| {
@@ -301,10 +305,15 @@ fn exits_exchanged(desk: &Program, words: &[&str], input: &[u8]) -> Output {
     Output { out: lines.concat().into_bytes(), ..output }
 }
 
-/// Offers from standard input, each a cycle later than its line says.
-fn late_offers(desk: &Program, words: &[&str], input: &[u8]) -> Output {
+/// Offers from standard input, those of such cycles a cycle later than their lines say.
+pub fn late_offers(
+    desk: &Program,
+    words: &[&str],
+    input: &[u8],
+    is_late: impl Fn(i64) -> bool,
+) -> Output {
     let late = |line: &str| match line.split_once(' ').map(|(cycle, flow)| (cycle.parse(), flow)) {
-        Some((Ok::<i64, _>(cycle), flow)) => format!("{} {flow}\n", cycle + 1),
+        Some((Ok(cycle), flow)) if is_late(cycle) => format!("{} {flow}\n", cycle + 1),
         _ => format!("{line}\n"),
     };
     if words.first() != Some(&"run") || words.contains(&"--summary") || input.is_empty() {
@@ -312,9 +321,17 @@ fn late_offers(desk: &Program, words: &[&str], input: &[u8]) -> Output {
     }
     let text = String::from_utf8_lossy(input).lines().map(late).collect::<String>();
     of_exits(desk.answer(words, text.as_bytes()), |line| {
-        line[3] -= 1;
-        line[5] += 1;
+        if is_late(line[3] - 1) {
+            line[3] -= 1;
+            line[5] += 1;
+        }
     })
+}
+
+/// The plan of a call, if it can be read.
+pub fn plan_of(desk: &Program, words: &[&str]) -> Option<Plan> {
+    let file = fs::read(desk.file(words.get(1)?)).ok()?;
+    read(&file).ok().map(|(plan, _)| plan)
 }
 
 /// Every wait beside the bound of a packet with none in front of it.
@@ -330,8 +347,7 @@ pub fn with_bounds(
     change: fn(&Plan, usize, i64, i64) -> i64,
 ) -> Output {
     let output = desk.answer(words, input);
-    let file = words.get(1).and_then(|name| fs::read(desk.file(name)).ok()).unwrap_or_default();
-    let Ok((plan, _)) = read(&file) else {
+    let Some(plan) = plan_of(desk, words) else {
         return output;
     };
     of_rows(output, |row| {

@@ -1,14 +1,15 @@
 //! Faults of the desk in going from offer to offer: where a call of many cycles begins and ends, and what
 //! is kept of it.
 
-use super::desk::{Fault, exit, number, of_exits, of_lines, of_recent, with_number};
+use super::desk::{
+    Fault, exit, late_offers, number, of_exits, of_lines, of_recent, plan_of, with_number,
+};
+use second::book::LAST_CLOCK;
 use second::desk::program::{Output, Program};
-use second::plan::read;
-use std::fs;
 
 /// A pause that one call goes through.
 const FAR: i64 = 1_000;
-const LAST_CYCLE: i64 = 4_294_967_294;
+const LAST_CYCLE: i64 = LAST_CLOCK - 1;
 
 pub const FAULTS: &[Fault] = &[
     ("a cycle too many before a far offer", late_far_offers, "columns exit entry wait."),
@@ -95,27 +96,14 @@ fn late_far_offers(desk: &Program, words: &[&str], input: &[u8]) -> Output {
         let before = call(&offers, cycle - 1);
         (before + FAR..LAST_CYCLE).contains(&cycle) && offers.contains(&cycle)
     };
-    let late = |line: &str| match line.split_once(' ').map(|(cycle, flow)| (cycle.parse(), flow)) {
-        Some((Ok(cycle), flows)) if is_far(cycle) => format!("{} {flows}\n", cycle + 1),
-        _ => format!("{line}\n"),
-    };
-    if words.first() != Some(&"run") || words.contains(&"--summary") {
-        return desk.answer(words, input);
-    }
-    let text = String::from_utf8_lossy(input).lines().map(late).collect::<String>();
-    of_exits(desk.answer(words, text.as_bytes()), |line| {
-        if is_far(line[3] - 1) {
-            line[3] -= 1;
-            line[5] += 1;
-        }
-    })
+    late_offers(desk, words, input, is_far)
 }
 
 /// Of the exits between two offers, those for which the first call has room.
 fn first_room_alone(desk: &Program, words: &[&str], input: &[u8]) -> Output {
     let output = desk.answer(words, input);
-    let file = words.get(1).and_then(|name| fs::read(desk.file(name)).ok()).unwrap_or_default();
-    let (Ok((plan, _)), Ok(text)) = (read(&file), String::from_utf8(output.out.clone())) else {
+    let (Some(plan), Ok(text)) = (plan_of(desk, words), String::from_utf8(output.out.clone()))
+    else {
         return output;
     };
     let offers = cycles_of(input);

@@ -1,10 +1,8 @@
 //! Faults of the desk in what --why counts, when it prints it, and which flows it takes.
 
-use super::desk::{Fault, with_number, without_second};
+use super::desk::{Fault, plan_of, with_number, without_second};
 use second::desk::program::{Output, Program};
 use second::desk::why::{WORDS, Why, row};
-use second::plan::read;
-use std::fs;
 
 pub const FAULTS: &[Fault] = &[
     (
@@ -298,8 +296,7 @@ fn moved(desk: &Program, words: &[&str], input: &[u8], from: usize, to: usize) -
 
 /// How many flows the plan of a call has, if it can be read.
 fn flows(desk: &Program, words: &[&str]) -> u64 {
-    let file = words.get(1).and_then(|name| fs::read(desk.file(name)).ok()).unwrap_or_default();
-    read(&file).map_or(0, |(plan, _)| plan.flows.len() as u64)
+    plan_of(desk, words).map_or(0, |plan| plan.flows.len() as u64)
 }
 
 /// Another flow's reasons in the table of the one that is asked for, by its number and the flows' count.
