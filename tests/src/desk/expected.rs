@@ -1,7 +1,6 @@
 //! What `run` prints, by the packet book's lines, U1's records, U4's sets of flows, U6's trial generator
 //! and U7's reasons.
 
-use super::idle;
 use super::why::Why;
 use crate::book::{Book, Delivery, LAST_CLOCK, Line};
 use crate::offers::MOST_WAITING;
@@ -10,6 +9,9 @@ use crate::recent::{Record, feed};
 use crate::window::{flight_bound, window};
 use std::collections::HashMap;
 use std::fmt::Write;
+
+/// The last cycles of a pause, so many, are stepped one by one.
+const MOST_SINGLE: i64 = 400;
 
 /// A stream's next line.
 #[derive(Clone, Debug)]
@@ -116,7 +118,8 @@ fn ran(plan: &Plan, entries: &[Entry], options: Options) -> Run {
         }
         let next = entries.peek().and_then(|entry| entry.cycle());
         let until = [next, options.cycles].into_iter().flatten().fold(LAST_CLOCK, i64::min);
-        if run.why.is_none() && idle::pass(&mut run.book, until) {
+        let ahead = until - clock;
+        if run.why.is_none() && ahead > MOST_SINGLE && run.book.pass_idle(ahead) > 0 {
             continue;
         }
         for delivery in run.step() {

@@ -5,7 +5,6 @@
 mod ends;
 pub mod expected;
 mod faults;
-mod idle;
 mod periods;
 pub mod program;
 mod sets;
