@@ -2,8 +2,8 @@
  *
  * Memory is lent as a pointer and a count of its elements. The pointer is not null, even for a count of 0.
  * Memories lent to one call don't overlap: hrt_reset's plan and state, hrt_step's and hrt_steps' state and delivery,
- * hrt_step_reasons' state, delivery and reasons, hrt_recent's records and its state or deliveries, hrt_write's target and its state or notes,
- * hrt_offer_set's state and flows lie apart. Only what is merely read may overlap, as hrt_write's state and notes.
+ * hrt_step_reasons' state, delivery and reasons, hrt_recent's records and its state or deliveries, hrt_write's target and its
+ * state or notes, hrt_offer_set's state and flows lie apart. Only what is merely read may overlap, as hrt_write's state and notes.
  * The functions have no memory of their own. Calls may run at once, in several threads, if what one of them writes is lent to
  * no other: all may read one plan, and a state is in one hrt_reset, hrt_offer, hrt_offer_trial, hrt_offer_set, hrt_step,
  * hrt_steps or hrt_step_reasons at a time.
@@ -88,7 +88,8 @@ uint64_t hrt_step(uint32_t *state, size_t state_words, uint32_t *delivery, size_
  * of all exits, and the state's clock tells how many steps ran: it ends early before a step for which the delivery memory left
  * is too short, under HRT_DELIVERY_WORDS(Sx, Sy) words, and at HRT_LAST_CLOCK. It is refused as hrt_step would be at its start,
  * for 0 cycles too, which otherwise change nothing. It uses at most the first 5 * 4,294,967,295 words of the delivery memory,
- * so that its answer fits. Cycles in which nothing can move take hardly any time. */
+ * so that its answer fits. Words behind the last exit stay. Cycles in which nothing can move take hardly any time, and others
+ * nearly that of a step: ask for fewer where the call must return soon. */
 uint64_t hrt_steps(uint32_t *state, size_t state_words, uint32_t *delivery, size_t delivery_words, uint32_t cycles);
 
 /* As hrt_step, and also writes a word for each flow, flow n's at place n: an HRT_REASON_. Words after the last flow stay. Fewer
@@ -107,10 +108,10 @@ struct hrt_recent {
     uint32_t deflections[HRT_MOST_RECENT];
 };
 
-/* Feeds deliveries, five words each as hrt_step delivers them, to the records of their flows: record n is flow n's, and it then
+/* Feeds deliveries, five words each as a step delivers them, to the records of their flows: record n is flow n's, and it then
  * holds the flow's last deliveries, at most `last` of them, 1 to HRT_MOST_RECENT. A record that says it holds more than `last`
- * is taken as empty. Lend the five words of each exit that hrt_step answered, and not the whole delivery memory: older deliveries
- * behind them would be kept again. Words behind the last whole delivery aren't read, and records without a delivery stay. Fewer
+ * is taken as empty. Lend the five words of each exit that hrt_step, hrt_steps or hrt_step_reasons answered, and not the whole
+ * delivery memory: older deliveries behind them would be kept again. Words behind the last whole delivery aren't read, and records without a delivery stay. Fewer
  * records than flows are refused with 16, another `last` with 17, and a delivery with 12 if the plan has no such flow, or that
  * flow can't have such a flight and deflections. Answers 0. */
 uint64_t hrt_recent(const uint32_t *state, size_t state_words, const uint32_t *deliveries, size_t delivery_words,

@@ -142,7 +142,7 @@ impl State {
     }
 
     /// So many [steps](State::step) in one call: the packets that leave, step by step. It ends early
-    /// where its room for deliveries is used up, after one step at least, and at the last clock:
+    /// where its room for deliveries is used up, but not before the first step, and at the last clock:
     /// [`State::clock`] tells how many ran. Cycles in which nothing can move take hardly any time.
     /// Refusal 11.
     #[inline]

@@ -140,7 +140,7 @@ impl<R: Read> Run<R> {
     }
 
     /// The cycles up to the next offer or the run's end, or some of them. One alone is a step, and so is
-    /// each where reasons are asked for; a step at the last clock is refused.
+    /// each where reasons are asked for, and each before `singly`; a step at the last clock is refused.
     fn advance(&mut self) -> io::Result<Option<End>> {
         let ahead = self.ahead();
         match self.why.is_some() || self.state.clock() < self.singly || ahead <= 1 {

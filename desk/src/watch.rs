@@ -41,7 +41,8 @@ pub fn watch_end(state: &State, tallies: &mut [Tally], here: u64) -> Result<(), 
 
 /// Is it certain that each of the last steps in one call, which began at this clock with `here` packets
 /// waiting or in flight, would have had nothing to tell by itself? A packet that kept its bound when it
-/// left, entered or is looked at now was within it in all cycles before.
+/// left, entered or is looked at now was within it in all cycles before. A packet that leaves twice in
+/// these steps is told when its exits are counted.
 pub fn all_kept(state: &State, tallies: &[Tally], start: u32, here: u64) -> bool {
     let clock = state.clock();
     let left = |exit: Delivery| {

@@ -21,7 +21,8 @@ impl Book {
         }
     }
 
-    /// These steps, but for cycles that are passed without one: before each step, of so many at most.
+    /// These steps, where `pass` may first pass cycles without one, at most as many as it is told; it
+    /// gives how many.
     pub fn steps_passing(
         &mut self,
         delivery_words: usize,
@@ -41,8 +42,8 @@ impl Book {
         Ok(exits)
     }
 
-    /// Passes idle cycles: so many, or the first half of them that is idle, or a half of that. Gives how
-    /// many.
+    /// Passes idle cycles: `most` of them, or else the first half, quarter and so on that is idle. Gives
+    /// how many.
     pub fn pass_idle(&mut self, most: i64) -> i64 {
         let mut cycles = most;
         while cycles > 0 && !self.is_idle(cycles) {
@@ -53,7 +54,7 @@ impl Book {
     }
 
     /// In none of so many cycles does anything move: nothing is in flight, and in the last of them no flow
-    /// that waits has a token. Without an entry none loses one before.
+    /// that waits has a token. Without an entry tokens never fall, so it had none before either.
     fn is_idle(&self, cycles: i64) -> bool {
         let rests =
             |(bucket, lines): (Bucket, &VecDeque<usize>)| lines.is_empty() || bucket.tokens == 0;

@@ -47,18 +47,18 @@ added b = record { book = b; reply = Done 0; delivered = []; reasons = [] }
 abbrev pub ran : Plan → Book → (reasons : List ℕ) → Fed
 ran p b reasons = record { book = stepped p b; reply = Done (length (deliveries p b)); delivered = deliveries p b; reasons = reasons }
 
--- many steps so far, and one more, by the number of its refusal: it delivers behind theirs, and one that the table refuses ends them
+-- the steps before, and one more, by the number of its refusal: it delivers behind theirs, and one that the table refuses changes nothing
 abbrev pub advanced : Plan → (number : ℕ) → Fed → Fed
-advanced p zero so =
-    let all : List Delivery = so .delivered ++ deliveries p (so .book) in
-    record { book = stepped p (so .book); reply = Done (length all); delivered = all; reasons = [] }
-advanced p (suc n) so = so
+advanced p zero before =
+    let all : List Delivery = before .delivered ++ deliveries p (before .book) in
+    record { book = stepped p (before .book); reply = Done (length all); delivered = all; reasons = [] }
+advanced p (suc n) before = before
 
--- it is judged by the delivery memory left, of so many words
+-- it is judged by what the exits before leave of so many words
 unfoldable pub advance : Plan → (room : ℕ) → Fed → Fed
-advance p room so = advanced p (stepNumber p (room - exitSize * length (so .delivered)) (so .book .clock)) so
+advance p room before = advanced p (stepNumber p (room - exitSize * length (before .delivered)) (before .book .clock)) before
 
--- that many, one after the other
+-- that many, one after the other, with nothing delivered before
 abbrev pub ranMany : Plan → Book → (room cycles : ℕ) → Fed
 ranMany p b room cycles = turns cycles (λ i. advance p (usedRoom room)) (added b)
 

@@ -4,7 +4,7 @@ use Prim.Native.Nat.{ℕ, _+_, _/_, _%_}
 use lib.Dec.{ltb}
 use Rattle.bucket.specs.declared.Bucket.{Bucket}
 
--- so many tokens, but no more than σ: "a token that finds it full is lost"
+-- so many tokens, but no more than σ: "a token that finds it full is lost" (02, U3)
 abbrev pub upTo : (burst tokens : ℕ) → ℕ
 upTo burst tokens = cond (ltb tokens burst) tokens burst
 

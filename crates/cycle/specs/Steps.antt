@@ -10,18 +10,18 @@ use Rattle.plan.specs.declared.Answer.the-variants.{Done, Refused}
 use Rattle.state.specs.Outcome.{Outcome, outcome, Lent, lent, unlessRefused}
 use Rattle.cycle.specs.Step.{stepOn}
 
--- the exits of all steps so far and the memories as the last one left them; then a step more, which so answered and left these memories:
--- its exits count, and its words stand behind theirs. A refused one (10 or 11) ends the steps: nothing changes any more
+-- the steps before: the number of their exits, and the memories as they left them. One step more, with this answer and these memories: its
+-- exits are added, and its words stand behind theirs. A refused one, with 10 or 11, changes nothing, and neither does any later one
 abbrev pub joined : Outcome ℕ Lent → Answer → Lent → Outcome ℕ Lent
-joined so (Done exits) after =
-    outcome (so .answer + exits) (lent (after .state) (take (exitSize * so .answer) (so .memory .other) ++ after .other))
-joined so (Refused number place) after = so
+joined before (Done exits) after =
+    outcome (before .answer + exits) (lent (after .state) (take (exitSize * before .answer) (before .memory .other) ++ after .other))
+joined before (Refused number place) after = before
 
--- a step more is lent the state as the last one left it, and the delivery memory behind the exits so far
+-- it is lent the state as the last one left it, and the delivery memory behind the exits before
 unfoldable pub stepMore : Outcome ℕ Lent → Outcome ℕ Lent
-stepMore so =
-    let o : Outcome Answer Lent = stepOn (so .memory .state) (drop (exitSize * so .answer) (so .memory .other)) in
-    joined so (o .answer) (o .memory)
+stepMore before =
+    let o : Outcome Answer Lent = stepOn (before .memory .state) (drop (exitSize * before .answer) (before .memory .other)) in
+    joined before (o .answer) (o .memory)
 
 -- the refusals of a step, judged at the start; otherwise that many steps on the front of the delivery memory, and the number of all exits.
 -- What lies past that front stays

@@ -43,7 +43,7 @@ EveryStep =
     → (last : ℕ) (records : List Recent) → 1 ≤ last → last ≤ mostKept → length ((planIn words) .flows) ≤ length records
     → let left = (stepOn words delivery) .memory in (feedOn (left .state) (take (exitSize * exits) (left .other)) last records) .answer ≡ Done 0
 
--- nor for those of many steps
+-- the same of what many steps in one call delivered: 12 never comes up for it
 abbrev pub EverySteps : Type 0
 EverySteps =
     (words delivery : List ℕ) (cycles exits : ℕ) → (stepsOn words delivery cycles) .answer ≡ Done exits

@@ -28,11 +28,11 @@ exitSize = 5
 abbrev pub roomFor : Plan → ℕ
 roomFor p = exitSize * (p .sx * p .sy)
 
--- an answer counts so many exits at most
+-- an answer's value has 32 bits: the most exits that it counts
 abbrev pub mostExits : ℕ
 mostExits = 4294967295
 
--- so many words of delivery memory, from its start, are all that many steps in one call use: 5×4,294,967,295
+-- many steps in one call use at most the first 5×4,294,967,295 words of delivery memory, so that an answer counts their exits
 unfoldable pub mostDelivered : ℕ
 mostDelivered = exitSize * mostExits
 

@@ -13,7 +13,7 @@ ghost use Rattle.state.specs.Facts.{StateFacts};
 ghost use Rattle.state.specs.Tallied.{tallied};
 ghost use Rattle.leap.specs.Leap.{passedTally, passedAt, Vacant, StaysOut, AllStayOut, Leapt};
 
-// Vacant is in flight.
+// True only where nothing is in flight.
 fn is_vacant(state: &[u32]) -> bool
     requires { ⌜ StateFacts (now state) ⌝ }
     ensures { λ r. ⌜ (r ≡ true → Vacant (stateOf (now (state .entry)))) ⌝ }

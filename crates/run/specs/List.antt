@@ -1,5 +1,6 @@
 -- A whole list of calls on one state, after an accepted reset, and what it comes to: every answer, every word delivered and
--- every word of the state are the packet book's (01, The packet book; 02, U4, U6, U7).
+-- every word of the state are the packet book's (01, The packet book; 02, U4, U6, U7; many steps in one
+-- call).
 -- A later request's call is one case more of `Asked`, `onWords` and `role`; all else is said of any call.
 use mathlib.Core.Bool.{cond}
 use mathlib.Core.List.{List, [], _∷_, _++_}
@@ -141,7 +142,8 @@ IsList memory [] = Unit {0}
 IsList memory (i ∷ is) =
     ((file : List ℕ) → i .asked ≡ reset file → (onMemory memory i) .answer ≢ Done 0) × IsList ((onMemory memory i) .memory .state) is
 
--- what the book is fed: who makes each offer and its flow, each set's flows and each step's lengths of delivery memory and reason list
+-- what the book is fed: who makes each offer and its flow, each set's flows, each step's lengths of delivery memory and reason list, and
+-- how many steps are asked for in one call
 abbrev pub fedAs : Role → List Call
 fedAs (feeds call other) = call ∷ []
 fedAs (between tells other) = []

@@ -97,7 +97,7 @@ fn take_turn(
 }
 
 // So many steps, one after the other, each delivering behind the last: the count of exits. After a step without an exit something is in
-// flight, and after a leap a token has come, so a leap is tried at the start and after exits.
+// flight, and after a leap a waiting flow has a token, or the steps are over; so a leap is tried at the start and after exits.
 pub fn advance_many(
     state: &mut [u32],
     entrants: &mut [u32],
@@ -157,7 +157,7 @@ fn advance_front(state: &mut [u32], delivery: &mut [u32], cycles: u32) -> u32
     advance_sized(state, delivery, cycles)
 }
 
-// So many cycles of the torus: the count of all exits, or the refusal of a step.
+// So many cycles of the torus, or as many as memory and clock allow: the count of all exits, or the refusal of a step at the start.
 pub fn steps(state: &mut [u32], delivery: &mut [u32], cycles: u32) -> Answer
     ensures { λ r. ⌜ outcome r (lent (now (state .exit)) (now (delivery .exit))) ≡ stepsOn (now (state .entry)) (now (delivery .entry)) cycles ⌝ }
 {
