@@ -9,3 +9,4 @@ pub mod Stands
 pub mod Grid
 pub mod Turns
 pub mod Written
+pub mod Zeros

@@ -110,21 +110,13 @@ fn register_fits(w: &[u32], dxs: &[u8], input: Input, x: u32, y: u32, at: usize)
     }
 }
 
-// Neither register of a router has a packet.
-fn is_vacant(w: &[u32], at: usize) -> bool
-    requires { ⌜ at + routerSize ≤ length (now w) ⌝ }
-    ensures { λ r. ⌜ r ≡ eqb (getD (now (w .entry)) at 0) 0 && eqb (getD (now (w .entry)) (at + registerSize) 0) 0 ⌝ }
-{
-    w[at] | w[at + state::REGISTER_SIZE] == 0
-}
-
 // Both registers of a router are those of a state. A vacant router is looked at in one go.
 fn cell_fits(w: &[u32], dxs: &[u8], x: u32, y: u32) -> bool
     requires { ⌜ RouterOf (now w) (now dxs) x y ⌝ }
     ensures { λ r. ⌜ r ≡ cellFits (now (w .entry)) x y ⌝ }
 {
     let at = state::router_place(w[state::FLOWS] as usize, w[state::SX], x, y);
-    if is_vacant(w, at) {
+    if state::is_vacant(w, at) {
         return four_zero(w, at) & four_zero(w, at + state::REGISTER_SIZE);
     }
     if !register_fits(w, dxs, Input::West, x, y, at) {

@@ -108,16 +108,8 @@ fn is_idle(state: &[u32], grid: Grid, x: u32, y: u32, entrants: &[u32]) -> bool
     ensures { λ r. ⌜ r ≡ isIdle (stateOf (now (state .entry))) x y ⌝ }
 {
     let router = state::router_index(grid.sx, x, y);
-    if entrants[router] != 0 {
-        return false;
-    }
-    let cell = cell_on(state, grid, x, y);
-    let west = cell.west;
-    if !cycle::is_empty(west) {
-        return false;
-    }
-    let north = cell.north;
-    cycle::is_empty(north)
+    let at = state::router_place(grid.flows, grid.sx, x, y);
+    (entrants[router] == 0) & state::is_vacant(state, at)
 }
 
 // The router in column x and row y: what it sends goes to its neighbours' next registers, or is delivered after `count` exits.

@@ -2,9 +2,11 @@
 use bucket::Bucket;
 use flow::Flow;
 ghost use mathlib.Core.Path.{_≡_};
+ghost use mathlib.Core.Bool.{_&&_};
 ghost use mathlib.Core.List.{[], _∷_};
 ghost use Prim.Native.Nat.{_+_, _≤_, _<_};
-ghost use lib.ListN.{length, set};
+ghost use lib.Dec.{eqb};
+ghost use lib.ListN.{length, getD, set};
 ghost use lib.Seq.{sets};
 ghost use Rattle.laws.specs.Grid.{cellIndex};
 ghost use Rattle.flow.specs.Plan.{mostSize, mostFlows};
@@ -166,6 +168,14 @@ pub fn cell_in(w: &[u32], at: usize) -> Cell
     let west = register_at(w, at);
     let north = register_at(w, at + REGISTER_SIZE);
     Cell { west, north }
+}
+
+// Neither register of the router at a place has a packet.
+pub fn is_vacant(w: &[u32], at: usize) -> bool
+    requires { ⌜ at + routerSize ≤ length (now w) ⌝ }
+    ensures { λ r. ⌜ r ≡ eqb (getD (now (w .entry)) at 0) 0 && eqb (getD (now (w .entry)) (at + registerSize) 0) 0 ⌝ }
+{
+    w[at] | w[at + REGISTER_SIZE] == 0
 }
 
 // Writes four words at a place.

@@ -2,7 +2,7 @@
 use native.Mathlib.Nat.{add-zero}
 use borrow.Author.Needs.{needs}
 use Rattle.laws.specs.Bounded.{allBelow}
-use Rattle.registers.proofs.Zeros.{or-none}
+use Rattle.laws.proofs.Zeros.{or-none}
 use Rattle.registers.proofs.four_zero.Statement.{statement}
 use Rattle.registers.proofs.four_zero.Tie as tie
 

@@ -1,8 +1,8 @@
 -- `is_vacant`: words whose bits together are none are both 0.
 use borrow.Author.Needs.{needs}
-use Rattle.registers.proofs.Zeros.{or-none}
-use Rattle.registers.proofs.is_vacant.Statement.{statement}
-use Rattle.registers.proofs.is_vacant.Tie as tie
+use Rattle.laws.proofs.Zeros.{or-none}
+use Rattle.state.proofs.is_vacant.Statement.{statement}
+use Rattle.state.proofs.is_vacant.Tie as tie
 
 returns : tie.Need-returns
 returns c = rw or-none

@@ -1,2 +1,0 @@
--- The law of words without a bit, beside the functions' proofs.
-pub mod Zeros
