@@ -3,7 +3,7 @@
 use std::error::Error;
 use std::fmt;
 
-/// Why a call said no: a number of README's table of refusals, and a place.
+/// Why a call said no: a number of docs/REFUSALS.md, and a place.
 #[derive(Clone, Copy, Debug, PartialEq, Eq)]
 pub struct Refusal {
     pub number: u32,

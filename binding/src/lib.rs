@@ -4,7 +4,7 @@
 //! A host reads a [`Plan`], asks the bounds of its flows, resets it into a [`State`], and then
 //! offers packets, one by one or several at once, and steps; a step may tell each flow's [`Reason`],
 //! and a [`Recent`] for each flow holds its last deliveries. Every answer is the archive's:
-//! [`Answer::Done`] with a value, or [`Answer::Refused`] with a number of README's table and a place.
+//! [`Answer::Done`] with a value, or [`Answer::Refused`] with a number of docs/REFUSALS.md and a place.
 //! A refused call changes nothing.
 //!
 //! ```
