@@ -149,7 +149,11 @@ pub const FAULTS: &[(&str, Fault)] = &[
         })
     }),
     ("a leap over packets in flight", |lent| lent.idle_after(|book| book.placed.clear())),
-    ("a leap over one packet in flight", |lent| lent.idle_after(|book| drop(book.placed.pop()))),
+    ("a leap over one packet in flight", |lent| {
+        lent.idle_after(|book| {
+            book.placed.pop();
+        })
+    }),
     ("a leap one cycle too far", |lent| {
         lent.passing(|book, most| {
             let idle = book.pass_idle(most);
