@@ -120,7 +120,8 @@ module _ (s : State) (sound : Sound s) where
 
   -- no flow is ready within the leap
   unready : (k : ℕ) → Idle (k + 1) s → (f : ℕ) → f < length (s .plan .flows) → ready (s .plan) (view (leapState k s)) f ≡ false
-  unready k idle f l = never _ (λ r. of (idle .out f l) (ready-parts (s .plan) (view (leapState k s)) f r .waits) (ready-parts (s .plan) (view (leapState k s)) f r .token))
+  unready k idle f l =
+      never _ (λ r. let parts = ready-parts (s .plan) (view (leapState k s)) f r in of (idle .out f l) (parts .waits) (parts .token))
     where
       φ : Flow
       φ = flowAt (s .plan) f

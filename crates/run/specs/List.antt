@@ -1,6 +1,5 @@
 -- A whole list of calls on one state, after an accepted reset, and what it comes to: every answer, every word delivered and
--- every word of the state are the packet book's (01, The packet book; 02, U4, U6, U7; many steps in one
--- call).
+-- every word of the state are the packet book's (01, The packet book; 02, U4, U6, U7; many steps in one call).
 -- A later request's call is one case more of `Asked`, `onWords` and `role`; all else is said of any call.
 use mathlib.Core.Bool.{cond}
 use mathlib.Core.List.{List, [], _∷_, _++_}

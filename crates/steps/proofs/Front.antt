@@ -42,7 +42,8 @@ module _ (w d : List ℕ) (cycles exits : ℕ) (w′ : List ℕ) where
       (sym e) (of-most formed front)
 
   -- or all, where there is no more
-  pub all-reached : length d ≤ mostDelivered → (d′ : List ℕ) → Reached w d (progress (length d) (stateOf w) cycles) exits w′ d′ → Reached w d reached exits w′ d′
+  pub all-reached : length d ≤ mostDelivered → (d′ : List ℕ)
+      → Reached w d (progress (length d) (stateOf w) cycles) exits w′ d′ → Reached w d reached exits w′ d′
   all-reached few d′ r =
       let same : length d ≡ usedRoom (length d) = sym (ap length (take-all mostDelivered d few)) ∙ used-length d in
       subst (λ room. Reached w d (progress room (stateOf w) cycles) exits w′ d′) same r

@@ -52,7 +52,9 @@ fn step_behind(
     requires { ⌜ Rooms (now state) (now entrants) (now registers) ⌝ }
     ensures { λ _. ⌜ now (state .exit) ≡ over (stateWords (stepState (stateOf (now (state .entry))))) (now (state .entry)) ⌝ }
     ensures { λ r. ⌜ r ≡ length (deliveries (stateOf (now (state .entry)))) ⌝ }
-    ensures { λ _. ⌜ now (delivery .exit) ≡ take (exitSize * exits) (now (delivery .entry)) ++ over (wordsOf (deliveries (stateOf (now (state .entry))))) (drop (exitSize * exits) (now (delivery .entry))) ⌝ }
+    ensures { λ _. ⌜ now (delivery .exit)
+        ≡ take (exitSize * exits) (now (delivery .entry))
+        ++ over (wordsOf (deliveries (stateOf (now (state .entry))))) (drop (exitSize * exits) (now (delivery .entry))) ⌝ }
 {
     clear(entrants);
     clear(registers);
@@ -107,7 +109,8 @@ pub fn advance_many(
 ) -> u32
     requires { ⌜ Checked (now state) (now delivery) ⌝ }
     requires { ⌜ Rooms (now state) (now entrants) (now registers) ⌝ }
-    ensures { λ r. ⌜ Reached (now (state .entry)) (now (delivery .entry)) (progress (length (now (delivery .entry))) (stateOf (now (state .entry))) cycles) r (now (state .exit)) (now (delivery .exit)) ⌝ }
+    ensures { λ r. ⌜ Reached (now (state .entry)) (now (delivery .entry))
+        (progress (length (now (delivery .entry))) (stateOf (now (state .entry))) cycles) r (now (state .exit)) (now (delivery .exit)) ⌝ }
 {
     let mut exits = 0u32;
     let mut left = cycles;
@@ -127,7 +130,8 @@ pub fn advance_many(
 // So many steps. A small torus gets little room.
 fn advance_sized(state: &mut [u32], delivery: &mut [u32], cycles: u32) -> u32
     requires { ⌜ Checked (now state) (now delivery) ⌝ }
-    ensures { λ r. ⌜ Reached (now (state .entry)) (now (delivery .entry)) (progress (length (now (delivery .entry))) (stateOf (now (state .entry))) cycles) r (now (state .exit)) (now (delivery .exit)) ⌝ }
+    ensures { λ r. ⌜ Reached (now (state .entry)) (now (delivery .entry))
+        (progress (length (now (delivery .entry))) (stateOf (now (state .entry))) cycles) r (now (state .exit)) (now (delivery .exit)) ⌝ }
 {
     let routers = state[state::SX] * state[state::SY];
     if routers <= 16 {
@@ -148,7 +152,8 @@ fn advance_sized(state: &mut [u32], delivery: &mut [u32], cycles: u32) -> u32
 // So many steps on the front of the delivery memory.
 fn advance_front(state: &mut [u32], delivery: &mut [u32], cycles: u32) -> u32
     requires { ⌜ stateNumber (now state) ≡ 0 ⌝ }
-    ensures { λ r. ⌜ Reached (now (state .entry)) (now (delivery .entry)) (progress (usedRoom (length (now (delivery .entry)))) (stateOf (now (state .entry))) cycles) r (now (state .exit)) (now (delivery .exit)) ⌝ }
+    ensures { λ r. ⌜ Reached (now (state .entry)) (now (delivery .entry))
+        (progress (usedRoom (length (now (delivery .entry)))) (stateOf (now (state .entry))) cycles) r (now (state .exit)) (now (delivery .exit)) ⌝ }
 {
     let most = most_delivered();
     if most < delivery.len() {

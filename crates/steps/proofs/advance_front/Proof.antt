@@ -28,6 +28,14 @@ returns c =
     let most = ran .before .before .before .before in
     front-reached _ _ _ _ _ (most .most-delivered .result) (most .most-delivered .ensures) (most .before .before .before .pre) _ (ran .advance-sized .ensures)
 
+advance-sized-requires-2 : tie.Need-advance-sized-requires-2
+advance-sized-requires-2 c κs =
+    let test = c .before .before in
+    record {
+      formed = test .before .before .before .before .pre;
+      delivery-most = omega (arith, test .if1 .left, test .before .most-delivered .ensures);
+    }
+
 returns-2 : tie.Need-returns-2
 returns-2 c =
     let ran = c .before .before .before .before in
@@ -36,6 +44,5 @@ returns-2 c =
 
 pub advance-front-spec : {M : Type 1} → statement M
 advance-front-spec =
-    tie.close (tie.spec (λ c κs. search needs) (λ c. search needs) (λ c. sym (front (c .before .before))) advance-sized-requires (λ c. search needs) (λ c. search needs) returns
-    (λ c κs. record { formed = c .before .before .before .before .before .before .pre; delivery-most = omega (arith, c .before .before .if1 .left, c .before .before .before .most-delivered .ensures) })
-    (λ c. search needs) (λ c. search needs) returns-2)
+    tie.close (tie.spec (λ c κs. search needs) (λ c. search needs) (λ c. sym (front (c .before .before))) advance-sized-requires
+    (λ c. search needs) (λ c. search needs) returns advance-sized-requires-2 (λ c. search needs) (λ c. search needs) returns-2)

@@ -25,8 +25,10 @@ abbrev μ-loop : tie.MeasureT-loop
 
 loop-again : tie.Need-loop-again Inv-loop μ-loop
 loop-again c =
-    let old = c .before .loop .inv in
-    (omega arith, (length-set (c .before .loop .l) (c .before .loop .i) 0 ∙ old .1 .0, zero-more (c .before .loop .l) (c .before .loop .i) (omega (arith, old .1 .0, c .loop-test .taken)) (old .1 .1)))
+    let now = c .before .loop in
+    let old = now .inv in
+    let within : now .i < length (now .l) = omega (arith, old .1 .0, c .loop-test .taken) in
+    (omega arith, (length-set (now .l) (now .i) 0 ∙ old .1 .0, zero-more (now .l) (now .i) within (old .1 .1)))
 
 returns : tie.Need-returns Inv-loop μ-loop
 returns c = λ i h. c .before .loop .inv .1 .1 i (omega (arith, c .before .loop .inv .1 .0, c .loop-test .left))

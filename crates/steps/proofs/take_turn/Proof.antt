@@ -17,7 +17,8 @@ returns : tie.Need-returns
 returns c = leapt (c .before .before .before .leap-if .ensures) (c .if1 .taken) refl refl
 
 -- no leap leaves the words as they were
-stood : (c : tie.Else1) → c .before .before .before .leap-if .last .1 .0 ≡ c .before .before .before .before .before .before .before .before .before .args .state .now
+stood : (c : tie.Else1) → let leapt = c .before .before .before in
+    leapt .leap-if .last .1 .0 ≡ leapt .before .before .before .before .before .before .args .state .now
 stood c = c .before .before .before .leap-if .ensures .stays (omega (arith, c .if1 .left))
 
 step-behind-requires : tie.Need-step-behind-requires
