@@ -2,7 +2,7 @@
 
 use crate::loads::{Case, Load, SIZES, case};
 use crate::many_steps;
-use crate::plain::Plain;
+use crate::plain::{EXIT, Plain};
 use crate::times::{Sides, print_row};
 use second::host::{Bounds, Engine};
 use second::recent::Record;
@@ -234,7 +234,7 @@ fn delivered(case: &Case, state: &[u32]) -> (Vec<u32>, Vec<Vec<u32>>) {
     let mut delivery = vec![0; case.room()];
     let mut step = || {
         let exits = Plain.step(&mut memory, &mut delivery);
-        delivery[..5 * exits as usize].to_vec()
+        delivery[..EXIT * exits as usize].to_vec()
     };
     let deliveries = (0..BATCH).map(|_| step()).collect();
     (memory, deliveries)

@@ -77,7 +77,7 @@ fn middle_ratio(pairs: &[[f64; 2]; PAIRS]) -> f64 {
 /// The archive's own calls: each offer before the step of its cycle, until everything has left.
 fn calls(archive: &impl Engine, case: &Case, offers: &[(u32, u32)]) {
     let mut state = vec![0; case.words()];
-    let mut delivery = vec![0; 5 * case.routers()];
+    let mut delivery = vec![0; case.room()];
     assert_eq!(archive.reset(&case.file, &mut state), 0);
     let mut here = 0;
     let mut offers = offers.iter().peekable();

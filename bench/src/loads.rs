@@ -1,7 +1,7 @@
 //! The plans and states that are timed: three sizes, each with nothing to do, lightly and fully loaded,
 //! and with slow flows.
 
-use crate::plain::Plain;
+use crate::plain::{Plain, delivery_words, state_words};
 use second::host::Engine;
 use second::plan::{Flow, MOST_PERIOD, Plan};
 use second::random::Random;
@@ -85,7 +85,7 @@ fn climbing_burst(count: i64) -> i64 {
 
 impl Case {
     pub fn words(&self) -> usize {
-        8 + 10 * self.flows + 8 * self.routers()
+        state_words(self.routers(), self.flows)
     }
 
     pub fn routers(&self) -> usize {
@@ -94,7 +94,7 @@ impl Case {
 
     /// The words of the deliveries of a step.
     pub fn room(&self) -> usize {
-        5 * self.routers()
+        delivery_words(self.routers())
     }
 
     /// The state after some hundred cycles, with packets of every flow waiting unless it is idle.

@@ -3,10 +3,10 @@
 use super::offers::{offer, offer_set};
 use super::plan::{numbers, read};
 use super::recent::recent;
-use super::state::state;
+use super::state::{EMPTY, parts, state};
 use super::step::{step, step_reasons};
 use super::steps::steps;
-use super::{Plain, refused};
+use super::{Plain, refused, state_words};
 use second::host::Engine;
 use second::offers::{MOST_TRIAL, MOST_WAITING};
 use second::recent::Record;
@@ -18,17 +18,17 @@ impl Engine for Plain {
             Err(no) => return no,
         };
         let count = file.records.len();
-        let size = 8 + 10 * count + 8 * (file.sx * file.sy) as usize;
-        let Some(words) = words.get_mut(..size) else {
+        let routers = (file.sx * file.sy) as usize;
+        if words.len() < state_words(routers, count) {
             return refused(8, 0);
-        };
-        words[..8].copy_from_slice(&[file.sx, file.sy, count as u32, 0, 0, 0, 0, 0]);
-        let (flows, registers) = words[8..].split_at_mut(10 * count);
-        for (flow, record) in flows.as_chunks_mut().0.iter_mut().zip(file.records) {
+        }
+        let (header, flows, registers) = parts(words, routers, count);
+        *header = [file.sx, file.sy, count as u32, 0, 0, 0, 0, 0];
+        for (flow, record) in flows.iter_mut().zip(file.records) {
             let [xs, ys, xd, yd, period, burst] = numbers(record);
             *flow = [xs, ys, xd, yd, period, burst, burst, 0, 0, 0];
         }
-        registers.fill(0);
+        registers.fill(EMPTY);
         0
     }
 

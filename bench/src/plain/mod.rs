@@ -11,6 +11,20 @@ mod step;
 mod steps;
 
 pub use plan::numbers;
+use second::state::{HEADER, PER_FLOW, PER_REGISTER};
+
+/// The words of an exit.
+pub const EXIT: usize = 5;
+
+/// The words of a state with so many routers and flows.
+pub fn state_words(routers: usize, flows: usize) -> usize {
+    HEADER + PER_FLOW * flows + 2 * PER_REGISTER * routers
+}
+
+/// The words that a step must be lent for its deliveries.
+pub fn delivery_words(routers: usize) -> usize {
+    EXIT * routers
+}
 
 /// The plain engine.
 pub struct Plain;

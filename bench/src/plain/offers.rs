@@ -2,13 +2,14 @@
 //! refusal.
 
 use super::refused;
-use super::state::{FlowWords, state};
+use super::state::{FlowWords, State, parts, state};
 use second::offers::MOST_WAITING;
 
 /// The words of the flows, if the words form a state.
 fn flows(words: &mut [u32]) -> Result<&mut [FlowWords], u64> {
-    let count = state(words)?.flows.len();
-    Ok(words[8..8 + 10 * count].as_chunks_mut().0)
+    let State { sx, sy, flows, .. } = state(words)?;
+    let (routers, count) = (sx * sy, flows.len());
+    Ok(parts(words, routers, count).1)
 }
 
 /// Adds a packet of a flow, but for this number where so many wait.

@@ -1,13 +1,14 @@
 //! The words of a state: the refusals 8 and 9.
 
-use super::{offset, refused};
+use super::{offset, refused, state_words};
 use second::offers::MOST_WAITING;
 use second::plan::MOST_PERIOD;
+use second::state::{HEADER, PER_FLOW, PER_REGISTER};
 
-pub type FlowWords = [u32; 10];
-pub type Register = [u32; 4];
+pub type FlowWords = [u32; PER_FLOW];
+pub type Register = [u32; PER_REGISTER];
 
-pub const EMPTY: Register = [0; 4];
+pub const EMPTY: Register = [0; PER_REGISTER];
 
 /// The words of a state, in their parts.
 pub struct State<'a> {
@@ -19,7 +20,7 @@ pub struct State<'a> {
 }
 
 fn split(words: &[u32]) -> Result<State<'_>, u64> {
-    let Some((&[sx, sy, count, clock, ref zeros @ ..], rest)) = words.split_first_chunk::<8>()
+    let Some((&[sx, sy, count, clock, ref zeros @ ..], rest)) = words.split_first_chunk::<HEADER>()
     else {
         return Err(refused(8, 0));
     };
@@ -28,12 +29,23 @@ fn split(words: &[u32]) -> Result<State<'_>, u64> {
         return Err(refused(9, 0));
     }
     let (sx, sy, count) = (sx as usize, sy as usize, count as usize);
-    if rest.len() < 10 * count + 8 * sx * sy {
+    if words.len() < state_words(sx * sy, count) {
         return Err(refused(8, 0));
     }
-    let (flows, rest) = rest.split_at(10 * count);
-    let (flows, registers) = (flows.as_chunks().0, rest[..8 * sx * sy].as_chunks().0);
+    let (flows, registers) = rest.split_at(PER_FLOW * count);
+    let (flows, registers) = (flows.as_chunks().0, &registers.as_chunks().0[..2 * sx * sy]);
     Ok(State { sx, sy, clock, flows, registers })
+}
+
+/// The words of a state with so many routers and flows, apart, to be changed.
+pub fn parts(
+    words: &mut [u32],
+    routers: usize,
+    flows: usize,
+) -> (&mut [u32; HEADER], &mut [FlowWords], &mut [Register]) {
+    let (header, rest) = words.split_first_chunk_mut().unwrap();
+    let (flows, registers) = rest.split_at_mut(PER_FLOW * flows);
+    (header, flows.as_chunks_mut().0, &mut registers.as_chunks_mut().0[..2 * routers])
 }
 
 /// The state's parts, if the words form one.

@@ -3,19 +3,15 @@
 use super::state::{FlowWords, is_empty};
 use super::step::{Torus, checked};
 
-/// An answer counts so many exits at most.
-const MOST_EXITS: usize = u32::MAX as usize;
-
 pub fn steps(words: &mut [u32], delivery: &mut [u32], cycles: u32) -> u64 {
     let mut torus = match checked(words, delivery) {
         Ok(torus) => torus,
         Err(no) => return no,
     };
     let delivery = delivery.as_chunks_mut().0;
-    let room = delivery.len().min(MOST_EXITS);
     let mut left = cycles.min(u32::MAX - *torus.clock);
     let mut exits = 0;
-    while left > 0 && room - exits >= torus.sx * torus.sy {
+    while left > 0 && delivery.len() - exits >= torus.sx * torus.sy {
         let idle = torus.idle(left);
         if idle > 0 {
             torus.pass(idle);
