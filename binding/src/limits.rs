@@ -46,5 +46,23 @@ pub const fn delivery_words(sx: u32, sy: u32) -> usize {
     EXIT_WORDS * (sx * sy) as usize
 }
 
+/// Where a state has its clock.
+pub const CLOCK_AT: usize = 3;
+
+/// Where a state has the first word of a flow.
+pub const fn flow_at(flow: usize) -> usize {
+    HEAD_WORDS + FLOW_WORDS * flow
+}
+
+/// Where a state has the count of a flow's packets that have entered.
+pub const fn entered_at(flow: usize) -> usize {
+    flow_at(flow) + 8
+}
+
+/// Where a state has the count of a flow's packets that wait.
+pub const fn waiting_at(flow: usize) -> usize {
+    flow_at(flow) + 9
+}
+
 /// The words of the largest state.
 pub const MOST_STATE_WORDS: usize = state_words(MOST_SIDE, MOST_SIDE, MOST_FLOWS);

@@ -1,8 +1,9 @@
 //! The state of a run, in words that the host owns.
 
 use crate::limits::{
-    delivery_words, state_words, EXIT_WORDS, FLOW_WORDS, HEAD_WORDS, MOST_FLOWS, MOST_PLAN_BYTES,
-    MOST_SIDE, MOST_STATE_WORDS, RECORD_BYTES, REGISTER_WORDS, TRAILER_BYTES,
+    delivery_words, entered_at, flow_at, state_words, waiting_at, CLOCK_AT, EXIT_WORDS, HEAD_WORDS,
+    MOST_FLOWS, MOST_PLAN_BYTES, MOST_SIDE, MOST_STATE_WORDS, RECORD_BYTES, REGISTER_WORDS,
+    TRAILER_BYTES,
 };
 use crate::{calls, Answer, Recent, Refusal};
 
@@ -230,35 +231,31 @@ impl State {
     /// The cycle of the next step.
     #[inline]
     pub fn clock(&self) -> u32 {
-        self.words[3]
+        self.words[CLOCK_AT]
     }
 
     /// A flow's plan numbers.
     pub fn flow(&self, flow: usize) -> Flow {
-        let [xs, ys, xd, yd, period, burst] = [0, 1, 2, 3, 4, 5].map(|at| self.of_flow(flow, at));
+        let [xs, ys, xd, yd, period, burst] =
+            [0, 1, 2, 3, 4, 5].map(|at| self.words[flow_at(flow) + at]);
         Flow { xs, ys, xd, yd, period, burst }
     }
 
     /// How many packets of a flow have entered.
     #[inline]
     pub fn entered(&self, flow: usize) -> u32 {
-        self.of_flow(flow, 8)
+        self.words[entered_at(flow)]
     }
 
     /// How many packets of a flow wait at its source.
     #[inline]
     pub fn waiting(&self, flow: usize) -> u32 {
-        self.of_flow(flow, 9)
-    }
-
-    #[inline]
-    fn of_flow(&self, flow: usize, at: usize) -> u32 {
-        self.words[HEAD_WORDS + FLOW_WORDS * flow + at]
+        self.words[waiting_at(flow)]
     }
 
     /// The packets in flight, register by register.
     pub fn packets(&self) -> impl Iterator<Item = Packet> + '_ {
-        let registers = &self.words[HEAD_WORDS + FLOW_WORDS * self.flows()..];
+        let registers = &self.words[flow_at(self.flows())..];
         registers.chunks_exact(REGISTER_WORDS).filter(|register| register[0] != 0).map(|register| {
             Packet {
                 flow: register[0] - 1,
@@ -325,7 +322,7 @@ mod tests {
         let packet = Packet { flow: 0, serial: 1, entry: 0, deflections: 0 };
         assert_eq!(state.packets().collect::<Vec<_>>(), [packet]);
         let mut kept = state.words().to_vec();
-        kept.resize(4616, 7);
+        kept.resize(MOST_STATE_WORDS, 7);
         assert_eq!(State::of_words(kept), Ok(state));
     }
 
@@ -407,7 +404,7 @@ mod tests {
     fn a_refused_step_delivers_nothing() {
         let flow = Flow { xd: 0, yd: 0, ..FLOW };
         let mut words = State::fresh(1, 1, &[flow]).unwrap().words().to_vec();
-        words[3] = LAST_CLOCK - 1;
+        words[CLOCK_AT] = LAST_CLOCK - 1;
         let mut state = State::of_words(words).unwrap();
         state.offer(0).done().unwrap();
         assert_eq!(state.step().unwrap().len(), 1);

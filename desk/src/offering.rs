@@ -132,6 +132,7 @@ fn broken(refusal: Refusal) -> Wrong {
 #[cfg(test)]
 mod tests {
     use super::*;
+    use hrt::limits::waiting_at;
     use hrt::Flow;
 
     const FLOW: Flow = Flow { xs: 0, ys: 0, xd: 3, yd: 3, period: 10, burst: 1 };
@@ -148,7 +149,7 @@ mod tests {
         fn new(waiting: [u32; 3]) -> Case {
             let mut words = State::fresh(4, 4, &[FLOW; 3]).unwrap().words().to_vec();
             for (flow, waiting) in waiting.into_iter().enumerate() {
-                words[8 + 10 * flow + 9] = waiting;
+                words[waiting_at(flow)] = waiting;
             }
             let tallies = (0..3).map(|flow| Tally::new(flow, 10, Some(2), 8)).collect();
             Case { state: State::of_words(words).unwrap(), tallies, queues: vec![0; 3] }

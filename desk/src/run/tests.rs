@@ -2,7 +2,7 @@
 
 use super::*;
 use crate::ending::Stop;
-use hrt::limits::LAST_CLOCK;
+use hrt::limits::{waiting_at, CLOCK_AT, LAST_CLOCK};
 use hrt::{Flow, Plan};
 
 /// A run of one flow, (0,0) to (3,3) on 4 by 4, from this clock on.
@@ -20,7 +20,7 @@ fn run_with<R: Read>(period: u32, clock: u32, offers: R) -> Run<R> {
     let plan = Plan::read(fresh.write(b"").unwrap()).unwrap();
     let tallies = tallies(&plan, &fresh).unwrap();
     let mut words = fresh.words().to_vec();
-    words[3] = clock;
+    words[CLOCK_AT] = clock;
     let state = State::of_words(words).unwrap();
     Run::new(state, tallies, Offers::of("offers".to_string(), offers))
 }
@@ -147,7 +147,7 @@ fn a_trial_line_is_offered_in_its_cycle() {
 fn a_refused_trial_line_is_counted() {
     let mut run = run_from(0, "0 0\n0 trial 0\n0 0\n0 trial 0");
     let mut words = run.state.words().to_vec();
-    words[17] = 254;
+    words[waiting_at(0)] = 254;
     run.state = State::of_words(words).unwrap();
     assert_eq!(run.offer_all().unwrap(), None);
     assert_eq!((run.offered, run.here, run.tallies[0].refused), (4, 2, 2));
