@@ -3,7 +3,7 @@
 
 mod faults {
     pub mod desk;
-    pub mod files;
+    pub mod kinds;
     pub mod lines;
     pub mod periods;
     pub mod sparse;
@@ -11,46 +11,50 @@ mod faults {
     pub mod why;
 }
 
+use faults::kinds::Fault;
+use faults::{desk, lines, periods, sparse, trial_lines, why};
 use second::compare::Tally;
 use second::compare::parts::Extent;
 use second::desk::calls;
 use second::desk::expected::{EXIT_HEADS, HEADS, RECENT_HEADS};
-use second::desk::program::{Caller, Program};
+use second::desk::kept::Kept;
+use second::desk::program::Program;
 use second::desk::why::row;
 use std::panic::{AssertUnwindSafe, catch_unwind, set_hook, take_hook};
+use std::sync::{Arc, Mutex};
+use std::{iter, thread};
 
 #[test]
 fn faults_are_noticed() {
     let desk = std::env::var("DESK").expect("DESK names the desk program");
+    let kinds = [desk::faults, lines::faults, periods::faults, sparse::faults];
+    let kinds = kinds.into_iter().chain([trial_lines::faults, why::faults]);
+    let faults: Vec<Fault> = kinds.flat_map(|faults| faults()).collect();
+    println!("{} planted faults", faults.len());
+    let faults = Mutex::new(faults.into_iter());
+    let kept = Arc::new(Kept::default());
     let hook = take_hook();
     set_hook(Box::new(|_| ()));
-    let mut missed = Vec::new();
-    let planted = [
-        faults::desk::FAULTS,
-        faults::lines::FAULTS,
-        faults::periods::FAULTS,
-        faults::sparse::FAULTS,
-        faults::trial_lines::FAULTS,
-        faults::why::FAULTS,
-    ];
-    for (name, caller, reason) in planted.concat() {
-        match difference(&desk, caller) {
-            Some(told) if told.contains(reason) => {}
-            Some(told) => missed.push(format!("{name}: noticed, but by {told}")),
-            None => missed.push(format!("{name}: not noticed")),
-        }
-    }
+    let next = || faults.lock().unwrap().next();
+    let missed = || iter::from_fn(next).filter_map(|fault| missed(&desk, fault, &kept)).collect();
+    let missed: Vec<Vec<String>> = thread::scope(|scope| {
+        [(); 2].map(|()| scope.spawn(missed)).map(|thread| thread.join().unwrap()).into()
+    });
     set_hook(hook);
+    let missed = missed.concat();
     assert!(missed.is_empty(), "{}", missed.join("\n"));
 }
 
-/// What the comparison tells of a program with this fault.
-fn difference(desk: &str, caller: Caller) -> Option<String> {
-    let program = Program::planted(desk, caller);
+/// What is wrong with how a fault is noticed, if anything is.
+fn missed(desk: &str, Fault { name, told, caller }: Fault, kept: &Arc<Kept>) -> Option<String> {
+    let program = Program::planted(desk, caller, kept);
     let compared = || calls(&program, &mut Tally::new(1), Extent::Gate);
-    let why = catch_unwind(AssertUnwindSafe(compared)).err()?;
-    let told = *why.downcast::<String>().unwrap();
-    Some(columns(&told).unwrap_or(told))
+    let Err(why) = catch_unwind(AssertUnwindSafe(compared)) else {
+        return Some(format!("{name}: not noticed"));
+    };
+    let by = *why.downcast::<String>().unwrap();
+    let by = columns(&by).unwrap_or(by);
+    (!by.contains(&told)).then(|| format!("{name}: noticed, but by {by}"))
 }
 
 /// The names of the columns in which two lines of a run differ, if that is what is told.

@@ -1,76 +1,48 @@
 //! Faults of the desk in going from offer to offer: where a call of many cycles begins and ends, and what
 //! is kept of it.
 
-use super::desk::{
-    Fault, exit, late_offers, number, of_exits, of_lines, of_recent, plan_of, with_number,
-};
+use super::desk::late_offers;
+use super::kinds::*;
 use second::book::LAST_CLOCK;
-use second::desk::program::{Output, Program};
+use second::desk::program::{Call, Output};
 
 /// A pause that one call goes through.
 const FAR: i64 = 1_000;
 const LAST_CYCLE: i64 = LAST_CLOCK - 1;
 
-pub const FAULTS: &[Fault] = &[
-    ("a cycle too many before a far offer", late_far_offers, "columns exit entry wait."),
-    ("the exits behind the first call's room lost", first_room_alone, "\n right: \"\""),
-    (
-        "--cycles passed over to the next offer",
-        |desk, words, input| match words.contains(&"--why") {
-            true => desk.answer(words, input),
-            false => with_number(desk, words, input, "--cycles", |cycles| {
-                let next = cycles_of(input).into_iter().find(|&cycle| cycle >= cycles as i64);
-                next.map_or(cycles, |cycle| cycle as u64)
-            }),
-        },
-        "left: \"\"\n right: \"",
-    ),
-    (
-        "a wait counted to the call and not to the entry",
-        |desk, words, input| {
-            of_exits(desk.answer(words, input), |line| {
-                line[5] = call(&cycles_of(input), line[4]) - line[3];
+pub fn faults() -> Vec<Fault> {
+    vec![
+        by_hand("a cycle too many before a far offer", "columns exit entry wait.", late_far_offers),
+        by_hand("exits behind the first call's room lost", "\n right: \"\"", first_room_alone),
+        by_hand("--cycles passed over to the next offer", "left: \"\"\n right: \"", |call| {
+            with_number(call, "--cycles", |cycles| {
+                let offers = cycles_of(call.input).into_iter().map(|cycle| cycle as u64);
+                let next = offers.filter(|_| !call.has("--why")).find(|&cycle| cycle >= cycles);
+                next.unwrap_or(cycles)
             })
-        },
-        "columns wait.",
-    ),
-    (
-        "the end of the call for that of the run",
-        |desk, words, input| {
-            let is_compared = words.contains(&"run.plan") && !words.contains(&"--why");
-            of_lines(desk.answer(words, input), |line| match ended(line) {
-                Some((cycle, how @ "everything has left")) if is_compared => {
-                    format!("ended at cycle {}: {how}", cycle + 1)
-                }
-                _ => line.to_string(),
+        }),
+        by_hand("a wait counted to the call and not to the entry", "columns wait.", |call| {
+            of_exits(call.answer(), |line| {
+                line[5] = begin(&cycles_of(call.input), line[4]) - line[3];
             })
-        },
-        "everything has left\"",
-    ),
-    ("the last call's deliveries alone for the last L", last_call_alone, "columns held."),
-    (
-        "the last cycle not run",
-        |desk, words, input| {
-            of_lines(desk.answer(words, input), |line| match ended(line) {
-                Some((cycle, how)) if cycle > LAST_CYCLE => {
-                    format!("ended at cycle {LAST_CYCLE}: {how}")
-                }
-                _ => line.to_string(),
+        }),
+        by_hand("the end of the call for that of the run", "everything has left\"", |call| {
+            let is_compared = call.has("run.plan") && !call.has("--why");
+            of_end(call.answer(), |cycle, how| {
+                cycle + i64::from(is_compared && how == "everything has left")
             })
-        },
-        "ended at cycle 4294967294",
-    ),
-    (
-        "no refusal at the last clock",
-        |desk, words, input| match desk.answer(words, input) {
-            output if output.err.contains("refused 11") => {
-                Output { err: String::new(), status: 0, ..output }
+        }),
+        by_hand("the last call's deliveries alone", "columns held.", last_call_alone),
+        by_hand("the last cycle not run", "ended at cycle 4294967294", |call| {
+            of_end(call.answer(), |cycle, _| cycle.min(LAST_CYCLE))
+        }),
+        output("no refusal at the last clock", "left: (0, \"\")", |output| {
+            if output.err.contains("refused 11") {
+                (output.err, output.status) = (String::new(), 0);
             }
-            output => output,
-        },
-        "left: (0, \"\")",
-    ),
-];
+        }),
+    ]
+}
 
 /// The cycles of a stream's offers.
 fn cycles_of(input: &[u8]) -> Vec<i64> {
@@ -79,60 +51,57 @@ fn cycles_of(input: &[u8]) -> Vec<i64> {
 }
 
 /// The cycle in which the call begins that has this one: the last offer's.
-fn call(offers: &[i64], cycle: i64) -> i64 {
+fn begin(offers: &[i64], cycle: i64) -> i64 {
     offers[..offers.partition_point(|&offer| offer <= cycle)].last().copied().unwrap_or(0)
 }
 
-/// The cycle at which a run ended, and how.
-fn ended(line: &str) -> Option<(i64, &str)> {
-    let (cycle, how) = line.strip_prefix("ended at cycle ")?.split_once(": ")?;
-    Some((cycle.parse().ok()?, how))
+/// Changes the cycle at which a run ended, by how it did.
+fn of_end(output: Output, change: impl Fn(i64, &str) -> i64) -> Output {
+    of_lines(output, |line| {
+        let ended = line.strip_prefix("ended at cycle ").and_then(|end| end.split_once(": "));
+        ended.map_or(line.to_string(), |(cycle, how)| {
+            format!("ended at cycle {}: {how}", change(value(cycle), how))
+        })
+    })
 }
 
 /// Offers behind a long pause, each a cycle later than its line says.
-fn late_far_offers(desk: &Program, words: &[&str], input: &[u8]) -> Output {
-    let offers = cycles_of(input);
-    let is_far = |cycle: i64| {
-        let before = call(&offers, cycle - 1);
+fn late_far_offers(call: &Call) -> Output {
+    let offers = cycles_of(call.input);
+    late_offers(call, |cycle| {
+        let before = begin(&offers, cycle - 1);
         (before + FAR..LAST_CYCLE).contains(&cycle) && offers.contains(&cycle)
-    };
-    late_offers(desk, words, input, is_far)
+    })
 }
 
 /// Of the exits between two offers, those for which the first call has room.
-fn first_room_alone(desk: &Program, words: &[&str], input: &[u8]) -> Output {
-    let output = desk.answer(words, input);
-    let (Some(plan), Ok(text)) = (plan_of(desk, words), String::from_utf8(output.out.clone()))
-    else {
-        return output;
-    };
-    let offers = cycles_of(input);
+fn first_room_alone(call: &Call) -> Output {
+    let (mut output, plan, offers) = (call.answer(), plan_of(call), cycles_of(call.input));
+    let room = plan.map_or(usize::MAX, |plan| 15 * plan.routers());
     let (mut start, mut left) = (0, 0);
-    let mut is_kept = |line: &str| match exit(line.trim_end()) {
-        Some(numbers) => {
-            let begun = call(&offers, numbers[0]);
+    let is_kept = |line: &String| {
+        exit(line).is_none_or(|numbers| {
+            let begun = begin(&offers, numbers[0]);
             left = if begun == start { left + 1 } else { 1 };
             start = begun;
-            left <= 15 * plan.routers()
-        }
-        None => true,
+            left <= room
+        })
     };
-    let kept: String = text.split_inclusive('\n').filter(|line| is_kept(line)).collect();
-    Output { out: kept.into_bytes(), ..output }
+    in_lines(&mut output, |lines| lines.retain(is_kept));
+    output
 }
 
 /// As many deliveries held as the flow had in the last call, at most L.
-fn last_call_alone(desk: &Program, words: &[&str], input: &[u8]) -> Output {
-    let output = desk.answer(words, input);
-    let text = String::from_utf8_lossy(&output.out).into_owned();
-    let exits: Vec<Vec<i64>> = text.lines().filter_map(exit).collect();
-    let offers = cycles_of(input);
-    let start = exits.last().map_or(0, |last| call(&offers, last[0]));
-    of_recent(output, |row| {
-        let flow = number(&row[0]);
+fn last_call_alone(call: &Call) -> Output {
+    let output = call.answer();
+    let exits: Vec<Vec<i64>> =
+        String::from_utf8_lossy(&output.out).lines().filter_map(exit).collect();
+    let start = exits.last().map_or(0, |last| begin(&cycles_of(call.input), last[0]));
+    of_rows(output, |row| {
+        let flow = value(&row[0]);
         let last = exits.iter().filter(|exit| exit[1] == flow && exit[0] >= start).count();
-        if !words.contains(&"--summary") {
-            row[12] = number(&row[12]).min(last as i64).to_string();
+        if let (Ok(held), false) = (row[12].parse(), call.has("--summary")) {
+            row[12] = last.min(held).to_string();
         }
     })
 }

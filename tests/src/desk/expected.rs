@@ -35,7 +35,7 @@ impl Entry {
 }
 
 /// How a run is called.
-#[derive(Clone, Copy, Debug, Default)]
+#[derive(Clone, Copy, Debug, Default, PartialEq, Eq, Hash)]
 pub struct Options {
     pub cycles: Option<i64>,
     pub recent: Option<usize>,

@@ -5,6 +5,7 @@
 mod ends;
 pub mod expected;
 mod faults;
+pub mod kept;
 mod periods;
 pub mod program;
 mod sets;

@@ -2,26 +2,59 @@
 //!
 //! A fault may be planted in how it is called: then the comparison must notice.
 
+use super::kept::Kept;
 use crate::compare::Tally;
 use std::cell::Cell;
 use std::io::{BufRead, BufReader, Read, Write};
 use std::path::{Path, PathBuf};
 use std::process::{self, Child, Command, Stdio};
+use std::sync::Arc;
+use std::sync::atomic::{AtomicU32, Ordering};
 use std::{fs, thread};
 
 pub struct Program {
     path: String,
     folder: PathBuf,
     caller: Caller,
+    /// What is known of calls that other planted programs have had too.
+    pub(super) kept: Option<Arc<Kept>>,
     /// How many lines a call prints before it is interrupted, if it is.
     interrupt: Cell<Option<usize>>,
 }
 
-/// What a call with these words and this standard input gives, and leaves in the folder.
-pub type Caller = fn(&Program, &[&str], &[u8]) -> Output;
+/// A call with these words and this standard input.
+pub struct Call<'a> {
+    pub desk: &'a Program,
+    pub words: &'a [&'a str],
+    pub input: &'a [u8],
+}
+
+impl Call<'_> {
+    /// What the program itself gives.
+    pub fn answer(&self) -> Output {
+        self.desk.answer(self.words, self.input)
+    }
+
+    /// What it gives for other words.
+    pub fn with_words(&self, words: &[&str]) -> Output {
+        self.desk.answer(words, self.input)
+    }
+
+    /// What it gives for another standard input.
+    pub fn with_input(&self, input: &[u8]) -> Output {
+        self.desk.answer(self.words, input)
+    }
+
+    pub fn has(&self, word: &str) -> bool {
+        self.words.contains(&word)
+    }
+}
+
+/// What a call gives, and leaves in the folder.
+pub type Caller = Box<dyn Fn(&Call) -> Output + Send>;
 
 /// What a call of the program printed, and its status (-1 if a signal ended it).
-#[derive(Debug)]
+#[derive(Clone, Debug)]
 pub struct Output {
     pub out: Vec<u8>,
     pub err: String,
@@ -30,16 +63,22 @@ pub struct Output {
 
 impl Program {
     pub fn new(path: &str) -> Program {
-        Program::planted(path, Program::answer)
+        Program::made(path, Box::new(|call| call.answer()), None)
     }
 
     /// The program as this caller makes it look.
-    pub fn planted(path: &str, caller: Caller) -> Program {
+    pub fn planted(path: &str, caller: Caller, kept: &Arc<Kept>) -> Program {
+        Program::made(path, caller, Some(kept.clone()))
+    }
+
+    fn made(path: &str, caller: Caller, kept: Option<Arc<Kept>>) -> Program {
+        static MADE: AtomicU32 = AtomicU32::new(0);
         let path = fs::canonicalize(path).unwrap_or_else(|why| panic!("{path}: {why}"));
         let path = path.into_os_string().into_string().unwrap();
-        let folder = std::env::temp_dir().join(format!("desk.{}", std::process::id()));
+        let number = MADE.fetch_add(1, Ordering::Relaxed);
+        let folder = std::env::temp_dir().join(format!("desk.{}.{number}", process::id()));
         fs::create_dir(&folder).unwrap_or_else(|why| panic!("{}: {why}", folder.display()));
-        Program { path, folder, caller, interrupt: Cell::new(None) }
+        Program { path, folder, caller, kept, interrupt: Cell::new(None) }
     }
 
     pub fn path(&self) -> &str {
@@ -73,7 +112,7 @@ impl Program {
 
     /// Calls the program in its folder.
     pub fn call(&self, tally: &mut Tally, words: &[&str], input: &[u8]) -> Output {
-        let output = (self.caller)(self, words, input);
+        let output = (self.caller)(&Call { desk: self, words, input });
         *tally.answers.entry(("desk", output.status.unsigned_abs().into())).or_default() += 1;
         tally.words += output.out.len() as u64;
         output
@@ -95,6 +134,20 @@ impl Program {
 
     /// What the program itself gives.
     pub fn answer(&self, words: &[&str], input: &[u8]) -> Output {
+        let make = || self.answer_now(words, input);
+        match &self.kept {
+            // A path leads out of the folder.
+            Some(kept) if !words.iter().any(|word| word.contains('/')) => {
+                let file = |word: &&str| fs::read(self.file(word)).map_err(|why| why.kind());
+                let files = words.iter().map(file).collect();
+                let words = words.iter().map(|word| word.to_string()).collect();
+                kept.answer((words, files, input.to_vec(), self.interrupt.get()), make)
+            }
+            _ => make(),
+        }
+    }
+
+    fn answer_now(&self, words: &[&str], input: &[u8]) -> Output {
         let child = self.start(words);
         let output = match self.interrupt.get() {
             None => to_its_end(child, input),

@@ -211,7 +211,11 @@ pub fn compare(
     }
     let got = program.call(tally, &words, stream.text.as_bytes());
     let with = (&file, options, &stream.text);
-    let expected = printed(plan, &stream.entries, options);
+    let make = || printed(plan, &stream.entries, options);
+    let expected = match &program.kept {
+        Some(kept) => kept.expected((file.clone(), stream.text.clone(), options), make),
+        None => make(),
+    };
     same_lines(tally, &with, &expected, &got.out);
     let ended = |how: &str| expected.trim_end().ends_with(how);
     let (status, told) = match stream.told.as_deref() {
