@@ -17,9 +17,11 @@ pub fn faults() -> Vec<Fault> {
             format!("{cycle}{}\n", once.collect::<String>())
         }),
         by_hand("two equal flows with one q", "columns wait-bound spare", same_q),
+        // A refused line counted once, and not at all; no flow of the plan behind a full queue.
         lines_as("columns offered refused.", ["0 0 1 2\n", "0 1\n"]),
         lines_as("columns offered refused.", ["0 0 1 2\n", ""]),
         lines_as("columns offered refused", ["0 0 1 4 2\n", "0 0 1 2\n"]),
+        // Places told from 0, and that of a refused flow one too low.
         told_as(
             "left: (2, \"offers:4: the line's 2nd flow is 'x'",
             &[["1st", "0th"], ["2nd", "1st"], ["3rd", "2nd"], ["4th", "3rd"]],

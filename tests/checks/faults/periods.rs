@@ -10,6 +10,7 @@ type Record = [u8; RECORD];
 
 pub fn faults() -> Vec<Fault> {
     vec![
+        // Modulo 16,777,216.
         text_as("the period P is 20000000", "mode.txt", ["20000000", "3222784"]),
         most("the period P is 65536; it must be 1 to 65535", 65_535),
         most("the period P is 16777215; it must be 1 to 16777214", 16_777_214),

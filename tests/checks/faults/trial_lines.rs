@@ -6,6 +6,7 @@ use second::desk::program::{Call, Output};
 
 pub fn faults() -> Vec<Fault> {
     vec![
+        // The generator's line offered by the sonar's call.
         lines_as("columns refused waiting.", ["trial ", ""]),
         where_trial("the generator's own packets alone count", "columns refused left", |call| {
             with_lines(call, |line| match is_trial_alone(call) {
