@@ -1,5 +1,5 @@
-//! The comparison notices what it should: each of these faults, planted in the second simulator.
-//! And the comparing program tells wrong words.
+//! The comparison notices what it should: each of these faults, planted in the second simulator, and by what it
+//! changes. And the comparing program tells wrong words.
 
 mod faults {
     pub mod bounds;
@@ -9,173 +9,129 @@ mod faults {
     pub mod reasons;
     pub mod recent;
     pub mod records;
+    pub mod routine;
     pub mod sets;
     pub mod simulator;
     pub mod telling;
     pub mod trial;
 }
 
-use faults::simulator::{Calls, Host};
-use second::compare::listing;
+use faults::simulator::{Fault, Kind, slips};
+use faults::{bounds, engine, listing, many, reasons, recent, routine, sets, telling, trial};
 use second::compare::parts::{self, Extent};
-use second::plan::change_records;
-use second::slips::refuted;
-use second::window::listing_by;
+use second::compare::{self, Other, Others, Run, Tally};
+use second::lent::{Call, Lent};
+use second::random::Random;
+use second::{calls, table};
+use std::collections::BTreeMap;
 use std::panic::{AssertUnwindSafe, catch_unwind, set_hook, take_hook};
 use std::process::Command;
+use std::thread;
 
-/// A fault's name, and the comparison of a simulator that has it.
-type Planted<'a> = (String, Box<dyn Fn() + 'a>);
-
-/// A fault of the engine, which has these calls.
-fn of_the_engine(name: impl Into<String>, calls: impl Calls + 'static) -> Planted<'static> {
-    let host = Host(calls);
-    (name.into(), Box::new(move || drop(parts::engine(&host, 1, Extent::Gate))))
+/// Every fault.
+fn planted() -> Vec<Fault> {
+    let mut planted = routine::faults();
+    for faults in
+        [engine::faults(), trial::faults(), reasons::faults(), bounds::faults(), listing::faults()]
+    {
+        planted.extend(faults);
+    }
+    for (call, by_hand) in [
+        (Call::OfferSet, sets::FAULTS),
+        (Call::Step, telling::PLAIN),
+        (Call::Steps(0), many::FAULTS),
+        (Call::StepReasons, telling::FAULTS),
+        (Call::Recent(0), recent::FAULTS),
+    ] {
+        planted.extend(slips(call, by_hand));
+    }
+    planted
 }
 
-fn in_the_engine() -> Vec<Planted<'static>> {
-    use faults::engine::{FAULTS, Faulty, JUDGED, JUDGES, STEPPED, STEPS};
-    let mut planted = Vec::new();
-    for (name, fault) in FAULTS {
-        planted.push(of_the_engine(*name, Faulty::new(*fault)));
-    }
-    for (name, misread) in faults::records::FAULTS {
-        let calls = Faulty { misread: *misread, ..Faulty::new(|_| ()) };
-        planted.push(of_the_engine(format!("a reset with {name}"), calls));
-    }
-    for (faults, each) in [(JUDGED, JUDGES), (STEPPED, STEPS)] {
-        for (name, fault) in faults {
-            for calls in each.chunks(1) {
-                let name = format!("{} with {name}", calls[0]);
-                planted.push(of_the_engine(name, Faulty { calls, ..Faulty::new(*fault) }));
-            }
+/// What the comparison tells of each fault of the bounds, or of the engine's calls: all are compared at once.
+fn told_of_calls<'a>(faults: &[&'a Fault], bounds: bool) -> Vec<(&'a Fault, Option<String>)> {
+    let (mut planted, mut others) = (Vec::new(), Vec::new());
+    for &fault in faults {
+        if let Kind::Call(call, engine) = &fault.kind
+            && call.is_bound() == bounds
+        {
+            planted.push(fault);
+            let call = (!fault.sees_all).then_some(call.name());
+            others.push(Other { engine, call, told: None });
         }
     }
-    planted
+    let mut others = Others::of(others);
+    let compare = if bounds { parts::bounds_of } else { parts::engine_of };
+    let _ = catch_unwind(AssertUnwindSafe(|| compare(&mut others, 1, Extent::Gate)));
+    planted.into_iter().zip(others.told()).collect()
 }
 
-fn in_recent_flights() -> Vec<Planted<'static>> {
-    use faults::recent::{FAULTS, Faulty};
-    FAULTS.iter().map(|(name, fault)| of_the_engine(*name, Faulty(*fault))).collect()
-}
-
-fn in_sets() -> Vec<Planted<'static>> {
-    use faults::sets::{FAULTS, Faulty};
-    FAULTS.iter().map(|(name, fault)| of_the_engine(*name, Faulty(*fault))).collect()
-}
-
-fn in_many_steps() -> Vec<Planted<'static>> {
-    use faults::many::{FAULTS, Faulty};
-    FAULTS.iter().map(|(name, fault)| of_the_engine(*name, Faulty(*fault))).collect()
-}
-
-fn in_trial_offers() -> Vec<Planted<'static>> {
-    use faults::trial::{FAULTS, Faulty, OwnCounted, StoppedOffers, StoppedSets};
-    let mut planted: Vec<_> =
-        FAULTS.iter().map(|(name, fault)| of_the_engine(*name, Faulty(*fault))).collect();
-    planted.push(of_the_engine("the generator's own packets counted", OwnCounted::default()));
-    for number in [13, 18] {
-        let name = |calls: &str| format!("the sonar's {calls} stopped at 255 with {number}");
-        planted.push(of_the_engine(name("offers"), StoppedOffers(number)));
-        planted.push(of_the_engine(name("sets"), StoppedSets(number)));
-    }
-    planted
-}
-
-fn in_reasons() -> Vec<Planted<'static>> {
-    use faults::reasons::{Before, FAULTS, Faulty, Late, ORDERS};
-    use faults::telling::{self, PlainRefused};
-    let mut planted: Vec<_> =
-        FAULTS.iter().map(|(name, fault)| of_the_engine(*name, Faulty(*fault))).collect();
-    for (name, fault) in telling::FAULTS {
-        planted.push(of_the_engine(*name, telling::Faulty(*fault)));
-    }
-    for (told, right) in ORDERS {
-        planted.push(of_the_engine(format!("{told} before {right}"), Before { told, right }));
-    }
-    planted.push(of_the_engine("the reasons of the step before", Late::default()));
-    planted.push(of_the_engine("a plain step refused with 19", PlainRefused));
-    planted
-}
-
-fn in_the_bounds() -> Vec<Planted<'static>> {
-    let mut planted: Vec<Planted> = Vec::new();
-    for (name, fault) in faults::bounds::FAULTS {
-        let compared = || drop(parts::bounds(&faults::bounds::Faulty(fault), 1, Extent::Gate));
-        planted.push((name.to_string(), Box::new(compared)));
-    }
-    for (name, told) in faults::bounds::UNTOLD {
-        let compared = || drop(parts::bounds(&faults::bounds::Untold(*told), 1, Extent::Gate));
-        planted.push((name.to_string(), Box::new(compared)));
-    }
-    for (name, misread) in faults::records::FAULTS {
-        let fault = faults::bounds::misread_by(*misread);
-        let compared =
-            move || drop(parts::bounds(&faults::bounds::Faulty(&fault), 1, Extent::Gate));
-        planted.push((format!("bounds with {name}"), Box::new(compared)));
-    }
-    for row in refuted() {
-        let fault = faults::bounds::slipped(row.slip);
-        let compared =
-            move || drop(parts::bounds(&faults::bounds::Faulty(&fault), 1, Extent::Gate));
-        planted.push((format!("windows with {:?}", row.slip), Box::new(compared)));
-    }
-    planted
-}
-
-fn in_the_listing() -> Vec<Planted<'static>> {
-    let mut planted: Vec<Planted> = Vec::new();
-    for (name, fault) in faults::listing::FAULTS {
-        let print = |file: &[u8]| fault(file, &second::window::listing(file)).into_bytes();
-        let compared = move || drop(listing::run(print, 1, Extent::Gate));
-        planted.push((name.to_string(), Box::new(compared)));
-    }
-    for (name, misread) in faults::records::FAULTS {
-        let print =
-            |file: &[u8]| second::window::listing(&change_records(file, *misread)).into_bytes();
-        let compared = move || drop(listing::run(print, 1, Extent::Gate));
-        planted.push((format!("a listing with {name}"), Box::new(compared)));
-    }
-    for row in refuted() {
-        let rule = move |plan: &_, f| row.slip.window(plan, f);
-        let print = move |file: &[u8]| listing_by(file, rule).into_bytes();
-        let compared = move || drop(listing::run(print, 1, Extent::Gate));
-        planted.push((format!("a listing with {:?}", row.slip), Box::new(compared)));
-    }
-    planted
-}
-
-/// Does the comparison end in a difference that it tells?
-fn is_noticed(compared: &dyn Fn()) -> bool {
-    let Err(why) = catch_unwind(AssertUnwindSafe(compared)) else {
-        return false;
+/// What the comparison tells of a fault of the listing.
+fn told_of_listing(fault: &Fault) -> Option<(&Fault, Option<String>)> {
+    let Kind::Listing(print) = &fault.kind else {
+        return None;
     };
-    let told = why.downcast::<String>().unwrap();
-    told.contains("expected") || told.contains("left == right")
+    let print = |file: &[u8]| print(file).into_bytes();
+    let compared = || drop(compare::listing::run(print, 1, Extent::Gate));
+    let told = catch_unwind(AssertUnwindSafe(compared)).err();
+    Some((fault, told.and_then(|told| told.downcast().ok()).map(|told| *told)))
+}
+
+/// A fault that isn't noticed, or is noticed by something else than what it changes.
+fn missed((fault, told): (&Fault, Option<String>)) -> Option<String> {
+    let Some(told) = told else {
+        return Some(format!("{}: not noticed", fault.name));
+    };
+    let told = told.split_once(", ").map_or(&*told, |(_seed, told)| told);
+    let by = |(call, part): &(&str, String)| told.starts_with(&format!("{call}, {part}: "));
+    let brief: String = told.chars().take(100).collect();
+    (!fault.told.iter().any(by)).then(|| format!("{}: noticed, but by {brief}", fault.name))
+}
+
+/// The faults that are missed among every second one of all.
+fn missed_among(half: usize) -> Vec<String> {
+    let planted = planted();
+    let faults: Vec<_> = planted.iter().skip(half).step_by(2).collect();
+    let mut told = told_of_calls(&faults, true);
+    told.extend(told_of_calls(&faults, false));
+    told.extend(faults.iter().filter_map(|fault| told_of_listing(fault)));
+    assert_eq!(told.len(), faults.len());
+    told.into_iter().filter_map(missed).collect()
 }
 
 #[test]
 fn faults_are_noticed() {
+    let mut counts = BTreeMap::new();
+    for fault in planted() {
+        *counts.entry(fault.told[0].0).or_insert(0) += 1;
+    }
+    println!("planted: {counts:?}, {} in all", counts.values().sum::<i32>());
     let hook = take_hook();
     set_hook(Box::new(|_| ()));
-    let planted = [
-        in_the_engine(),
-        in_recent_flights(),
-        in_sets(),
-        in_many_steps(),
-        in_trial_offers(),
-        in_reasons(),
-        in_the_bounds(),
-        in_the_listing(),
-    ];
-    let missed: Vec<_> = planted
-        .iter()
-        .flatten()
-        .filter(|(_, compared)| !is_noticed(compared))
-        .map(|(name, _)| name)
-        .collect();
+    let missed = thread::scope(|scope| {
+        let halves = [0, 1].map(|half| scope.spawn(move || missed_among(half)));
+        halves.map(|half| half.join().unwrap()).concat()
+    });
     set_hook(hook);
-    assert!(missed.is_empty(), "not noticed: {missed:?}");
+    assert!(missed.is_empty(), "{}", missed.join("\n"));
+}
+
+/// Wherever the comparison's boundaries come, the table gives the refusal that is due.
+#[test]
+fn the_table_tells_what_is_due() {
+    let checked = |lent: &mut Lent| {
+        let row = table::row(lent.call);
+        let due = row.first_due(lent).map_or(0, |at| row.refusals[at].number);
+        let answer = calls::simulator(lent);
+        let number = lent.call.number(answer);
+        assert!(due == number || due == 0 && number == 14, "{:?}: {due} for {number}", lent.call);
+        answer
+    };
+    let (mut tally, mut random) = (Tally::new(1), Random::new(1));
+    let others = &mut Others::one(&checked);
+    let run = &mut Run { others, tally: &mut tally, random: &mut random };
+    compare::bounds::boundaries(run);
+    parts::boundaries(run);
 }
 
 #[test]

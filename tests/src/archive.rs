@@ -1,61 +1,26 @@
 //! The archive, through the binding that every Rust host uses.
 
-use crate::host::{Bounds, Engine};
+use crate::lent::{Call, Lent};
 use crate::recent::Record;
 use hrt::{Recent, calls};
 
-/// The linked archive.
-pub struct Archive;
-
-impl Bounds for Archive {
-    fn window(&self, file: &[u8], flow: u32) -> u32 {
-        calls::window(file, flow)
-    }
-
-    fn flight(&self, file: &[u8], flow: u32) -> u64 {
-        calls::flight(file, flow)
-    }
-
-    fn notes(&self, file: &[u8]) -> u64 {
-        calls::notes(file)
-    }
-}
-
-impl Engine for Archive {
-    fn reset(&self, file: &[u8], state: &mut [u32]) -> u64 {
-        calls::reset(file, state)
-    }
-
-    fn offer(&self, state: &mut [u32], flow: u32) -> u64 {
-        calls::offer(state, flow)
-    }
-
-    fn offer_trial(&self, state: &mut [u32], flow: u32) -> u64 {
-        calls::offer_trial(state, flow)
-    }
-
-    fn offer_set(&self, state: &mut [u32], flows: &[u32]) -> u64 {
-        calls::offer_set(state, flows)
-    }
-
-    fn step(&self, state: &mut [u32], delivery: &mut [u32]) -> u64 {
-        calls::step(state, delivery)
-    }
-
-    fn steps(&self, state: &mut [u32], delivery: &mut [u32], cycles: u32) -> u64 {
-        calls::steps(state, delivery, cycles)
-    }
-
-    fn step_reasons(&self, state: &mut [u32], delivery: &mut [u32], reasons: &mut [u32]) -> u64 {
-        calls::step_reasons(state, delivery, reasons)
-    }
-
-    fn recent(&self, state: &[u32], deliveries: &[u32], records: &mut [Record], last: u32) -> u64 {
-        calls::recent(state, deliveries, as_bound(records), last)
-    }
-
-    fn write(&self, state: &[u32], notes: &[u8], target: &mut [u8]) -> u64 {
-        calls::write(state, notes, target)
+/// What the linked archive answers.
+pub fn archive(lent: &mut Lent) -> u64 {
+    match lent.call {
+        Call::Notes => calls::notes(lent.file),
+        Call::Flight(flow) => calls::flight(lent.file, flow),
+        Call::Window(flow) => calls::window(lent.file, flow).into(),
+        Call::Reset => calls::reset(lent.file, lent.state),
+        Call::Offer(flow) => calls::offer(lent.state, flow),
+        Call::OfferTrial(flow) => calls::offer_trial(lent.state, flow),
+        Call::OfferSet => calls::offer_set(lent.state, lent.list),
+        Call::Step => calls::step(lent.state, lent.delivery),
+        Call::Steps(cycles) => calls::steps(lent.state, lent.delivery, cycles),
+        Call::StepReasons => calls::step_reasons(lent.state, lent.delivery, lent.reasons),
+        Call::Recent(last) => {
+            calls::recent(lent.state, lent.deliveries, as_bound(lent.records), last)
+        }
+        Call::Write => calls::write(lent.state, lent.notes, lent.target),
     }
 }
 

@@ -47,7 +47,8 @@ pub struct Bucket {
 }
 
 /// The five words of a delivery: flow, serial, entry cycle, exit cycle, D.
-pub type Delivery = [u32; 5];
+pub type Delivery = [u32; PER_DELIVERY];
+pub const PER_DELIVERY: usize = 5;
 
 #[derive(Clone, Debug, PartialEq, Eq)]
 pub struct Book {
@@ -107,7 +108,7 @@ impl Book {
 
     /// The refusals of a step that is lent this many words of delivery memory.
     pub fn may_step(&self, delivery_words: usize) -> Result<(), Refusal> {
-        if delivery_words < 5 * self.plan.routers() {
+        if delivery_words < self.plan.delivery_words() {
             return refuse(10, 0);
         }
         if self.clock == LAST_CLOCK {

@@ -1,11 +1,36 @@
 //! Each call as 01 or 02 states it, on lent memory: what it answers and what the memory is afterwards.
 
 use crate::book::{Book, Delivery};
-use crate::plan::{MOST_BYTES, RECORD, Refusal, TRAILER, read, refuse};
+use crate::lent::{Call, Lent};
+use crate::plan::{MOST_BYTES, Refusal, read, refuse};
 use crate::recent::{self, Record};
 use crate::state::{judge, words};
+use crate::window::{flight_call, window_call};
 
 pub type Answer = Result<u64, Refusal>;
+
+/// The second simulator's answer to a call.
+pub fn answer(lent: &mut Lent) -> Answer {
+    match lent.call {
+        Call::Notes => notes(lent.file),
+        Call::Flight(flow) => flight_call(lent.file, flow),
+        Call::Window(flow) => window_call(lent.file, flow),
+        Call::Reset => reset(lent.file, lent.state),
+        Call::Offer(flow) => offer(lent.state, flow),
+        Call::OfferTrial(flow) => offer_trial(lent.state, flow),
+        Call::OfferSet => offer_set(lent.state, lent.list),
+        Call::Step => step(lent.state, lent.delivery),
+        Call::Steps(cycles) => steps(lent.state, lent.delivery, cycles),
+        Call::StepReasons => step_reasons(lent.state, lent.delivery, lent.reasons),
+        Call::Recent(last) => recent(lent.state, lent.deliveries, lent.records, last),
+        Call::Write => write(lent.state, lent.notes, lent.target),
+    }
+}
+
+/// The second simulator as an engine.
+pub fn simulator(lent: &mut Lent) -> u64 {
+    lent.call.returned(answer(lent))
+}
 
 /// The notes' call: the length of the notes, which lead the file.
 pub fn notes(file: &[u8]) -> Answer {
@@ -108,7 +133,7 @@ pub fn recent(memory: &[u32], deliveries: &[u32], records: &mut [Record], last: 
 /// Writing: 8 and 9, then 1, 15.
 pub fn write(memory: &[u32], notes: &[u8], target: &mut [u8]) -> Answer {
     let plan = judge(memory)?.plan;
-    let length = notes.len() + RECORD * plan.flows.len() + TRAILER;
+    let length = plan.file_bytes(notes.len());
     if length > MOST_BYTES {
         return refuse(1, 0);
     }

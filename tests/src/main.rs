@@ -83,7 +83,7 @@ fn from_the_time() -> u64 {
 
 #[cfg(feature = "bounds")]
 fn bounds(seed: u64, extent: Extent) -> Tally {
-    second::compare::parts::bounds(&second::archive::Archive, seed, extent)
+    second::compare::parts::bounds(&second::archive::archive, seed, extent)
 }
 
 #[cfg(not(feature = "bounds"))]
@@ -93,7 +93,7 @@ fn bounds(_: u64, _: Extent) -> Tally {
 
 #[cfg(feature = "engine")]
 fn engine(seed: u64, extent: Extent) -> Tally {
-    second::compare::parts::engine(&second::archive::Archive, seed, extent)
+    second::compare::parts::engine(&second::archive::archive, seed, extent)
 }
 
 #[cfg(not(feature = "engine"))]

@@ -1,6 +1,9 @@
 //! Plan files, by 01's "Torus and plan file" with U5's periods, and the refusals 1 to 7.
 //! Numbers are integers here (i64), so that nothing wraps.
 
+use crate::book::PER_DELIVERY;
+use crate::state::size;
+
 /// What a refused call returns: a number of 01's table and a place.
 #[derive(Clone, Copy, Debug, PartialEq, Eq)]
 pub struct Refusal {
@@ -81,7 +84,17 @@ impl Plan {
 
     /// How many words the state of this plan has.
     pub fn state_words(&self) -> usize {
-        8 + 10 * self.flows.len() + 8 * self.routers()
+        size(self.flows.len(), self.routers())
+    }
+
+    /// How many words a step must be lent for its deliveries.
+    pub fn delivery_words(&self) -> usize {
+        PER_DELIVERY * self.routers()
+    }
+
+    /// How long the plan file with so many bytes of notes is.
+    pub fn file_bytes(&self, notes: usize) -> usize {
+        notes + RECORD * self.flows.len() + TRAILER
     }
 
     /// The plan file with these notes.

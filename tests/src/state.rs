@@ -9,6 +9,11 @@ pub const HEADER: usize = 8;
 pub const PER_FLOW: usize = 10;
 pub const PER_REGISTER: usize = 4;
 
+/// How many words the state of so many flows and routers has: a router has two registers.
+pub fn size(flows: usize, routers: usize) -> usize {
+    HEADER + PER_FLOW * flows + 2 * PER_REGISTER * routers
+}
+
 /// The words of the state that the book stands for.
 pub fn words(book: &Book) -> Vec<u32> {
     let plan = &book.plan;

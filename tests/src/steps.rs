@@ -1,12 +1,12 @@
 //! Many steps of the packet book in one call: its single steps, one after the other. Where they are too many
 //! to run, idle ones are passed at once, by what a regulator's counter comes to without an entry.
 
-use crate::book::{Book, Bucket, Delivery, LAST_CLOCK};
+use crate::book::{Book, Bucket, Delivery, LAST_CLOCK, PER_DELIVERY};
 use crate::plan::Refusal;
 use std::collections::VecDeque;
 
 /// The delivery memory that is used at most: the answer counts its exits in 32 bits.
-const MOST_WORDS: usize = 5 * u32::MAX as usize;
+const MOST_WORDS: usize = PER_DELIVERY * u32::MAX as usize;
 /// A call of at most so many cycles runs every one of them.
 const MOST_SINGLE: u32 = 4096;
 
@@ -32,10 +32,10 @@ impl Book {
         self.may_step(delivery_words)?;
         let room = delivery_words.min(MOST_WORDS);
         let (mut exits, mut left) = (Vec::new(), cycles as i64);
-        while left > 0 && self.may_step(room - 5 * exits.len()).is_ok() {
+        while left > 0 && self.may_step(room - PER_DELIVERY * exits.len()).is_ok() {
             let passed = pass(self, left.min(LAST_CLOCK - self.clock));
             if passed == 0 {
-                exits.extend(self.step(room - 5 * exits.len())?);
+                exits.extend(self.step(room - PER_DELIVERY * exits.len())?);
             }
             left -= passed.max(1);
         }

@@ -1,13 +1,37 @@
 //! Faults of the listing, as what it prints in place of the right text for a file.
 
 use super::bounds::past_the_last;
-use second::plan::MOST_BYTES;
+use super::records;
+use super::simulator::{Fault, Kind};
+use second::plan::{MOST_BYTES, change_records};
+use second::slips::refuted;
 use second::window::{listing, listing_by, window};
 
 /// What a faulty listing prints for a file whose right listing is this text.
-pub type Fault = fn(&[u8], &str) -> String;
+type Print = fn(&[u8], &str) -> String;
 
-pub const FAULTS: &[(&str, Fault)] = &[
+/// A listing that prints this for a file.
+fn printing(name: &str, print: impl Fn(&[u8]) -> String + 'static) -> Fault {
+    let (name, told) = (format!("listing: {name}"), vec![("listing", "text".to_string())]);
+    Fault { name, told, kind: Kind::Listing(Box::new(print)), sees_all: false }
+}
+
+pub fn faults() -> Vec<Fault> {
+    let mut faults = Vec::new();
+    for &(name, print) in FAULTS {
+        faults.push(printing(name, move |file| print(file, &listing(file))));
+    }
+    for &(name, misread) in records::FAULTS {
+        faults.push(printing(name, move |file| listing(&change_records(file, misread))));
+    }
+    for row in refuted() {
+        let rule = move |plan: &_, f| row.slip.window(plan, f);
+        faults.push(printing(&format!("{:?}", row.slip), move |file| listing_by(file, rule)));
+    }
+    faults
+}
+
+const FAULTS: &[(&str, Print)] = &[
     ("a line too few", |_, text| match text.trim_end().rsplit_once('\n') {
         Some((lines, _)) => format!("{lines}\n"),
         None => text.into(),

@@ -1,9 +1,8 @@
 //! Faults of the reasons that a step tells, each as what is told in place of the right one.
 
-use super::simulator::Calls;
+use super::simulator::{Fault, OneCall, in_call};
 use second::book::{Book, Line, Router, Side};
-use second::calls;
-use second::host::returned;
+use second::lent::{Call, Lent, Part};
 use second::plan::Port;
 use second::state::judge;
 use std::cell::RefCell;
@@ -17,69 +16,38 @@ pub struct Cycle {
     right: Vec<u32>,
 }
 
-/// What is told to a flow in a cycle.
-pub type Fault = fn(&Cycle, usize) -> u32;
-
-/// The second simulator, but for what an accepted step tells.
-pub struct Faulty(pub Fault);
-
-impl Calls for Faulty {
-    fn step_reasons(&self, state: &mut [u32], delivery: &mut [u32], reasons: &mut [u32]) -> u64 {
-        telling(state, delivery, reasons, |cycle, flow| self.0(cycle, flow))
-    }
-}
-
-/// The second simulator, but for a reason that is told before another where both apply.
-pub struct Before {
-    pub told: u32,
-    pub right: u32,
-}
-
-impl Calls for Before {
-    fn step_reasons(&self, state: &mut [u32], delivery: &mut [u32], reasons: &mut [u32]) -> u64 {
-        telling(state, delivery, reasons, |cycle, flow| {
-            let both = cycle.right[flow] == self.right && cycle.applies(flow, self.told);
-            if both { self.told } else { cycle.right[flow] }
-        })
-    }
-}
-
 /// All pairs of reasons that may apply to one flow: the second is right.
 pub const ORDERS: [(u32, u32); 9] =
     [(2, 1), (3, 1), (4, 1), (5, 1), (3, 2), (4, 2), (5, 2), (5, 3), (5, 4)];
 
-/// The second simulator, but for the reasons of the step before, if it told as many.
-#[derive(Default)]
-pub struct Late(RefCell<Vec<u32>>);
-
-impl Calls for Late {
-    fn step_reasons(&self, state: &mut [u32], delivery: &mut [u32], reasons: &mut [u32]) -> u64 {
-        telling(state, delivery, reasons, |cycle, flow| {
-            let mut last = self.0.borrow_mut();
-            if last.len() != cycle.right.len() {
-                *last = cycle.right.clone();
-            }
-            std::mem::replace(&mut last[flow], cycle.right[flow])
+/// The right call, but for what an accepted step tells to each flow.
+fn telling(name: &str, word: impl Fn(&Cycle, usize) -> u32 + 'static) -> Fault {
+    in_call(Call::StepReasons, name, &[Part::Reasons], move |lent: &mut Lent| {
+        let (words, reasons) = (lent.state.to_vec(), lent.reasons.to_vec());
+        lent.then(0, |lent| {
+            let cycle = Cycle::new(&words, reasons);
+            (0..cycle.right.len()).for_each(|flow| lent.reasons[flow] = word(&cycle, flow));
         })
-    }
+    })
 }
 
-/// The right call, but for what an accepted step tells to each flow.
-fn telling(
-    state: &mut [u32],
-    delivery: &mut [u32],
-    reasons: &mut [u32],
-    word: impl Fn(&Cycle, usize) -> u32,
-) -> u64 {
-    let (words, lent) = (state.to_vec(), reasons.to_vec());
-    let answer = returned(calls::step_reasons(state, delivery, reasons));
-    if answer < 1 << 32 {
-        let cycle = Cycle::new(&words, lent);
-        for flow in 0..cycle.right.len() {
-            reasons[flow] = word(&cycle, flow);
-        }
+/// Every fault in what is told.
+pub fn faults() -> Vec<Fault> {
+    let mut faults: Vec<_> = FAULTS.iter().map(|&(name, word)| telling(name, word)).collect();
+    for (told, right) in ORDERS {
+        faults.push(telling(&format!("{told} before {right}"), move |cycle, flow| {
+            cycle.but(flow, told, &[right], cycle.applies(flow, told))
+        }));
     }
-    answer
+    let last = RefCell::new(Vec::new());
+    faults.push(telling("the reasons of the step before", move |cycle, flow| {
+        let mut last = last.borrow_mut();
+        if last.len() != cycle.right.len() {
+            *last = cycle.right.clone();
+        }
+        std::mem::replace(&mut last[flow], cycle.right[flow])
+    }));
+    faults
 }
 
 impl Cycle {
@@ -186,7 +154,8 @@ impl Cycle {
     }
 }
 
-pub const FAULTS: &[(&str, Fault)] = &[
+/// What is told to a flow in a cycle.
+const FAULTS: &[(&str, fn(&Cycle, usize) -> u32)] = &[
     ("reasons from 1", |cycle, flow| cycle.right[flow] + 1),
     ("0 for every flow", |_, _| 0),
     ("a bit for each reason that applies", |cycle, flow| {

@@ -1,7 +1,9 @@
 //! Faults of a hand that takes a record's bytes for others. The calls are right on what it takes them
 //! for.
 
-use second::plan::RECORD;
+use super::simulator::{Fault, OneCall, in_call};
+use second::lent::{Call, Lent, Part};
+use second::plan::{RECORD, change_records};
 
 /// What a record is taken for: xs, ys, xd, yd, P's low and middle byte, σ and P's top byte.
 pub type Misread = fn(&mut [u8; RECORD]);
@@ -43,4 +45,14 @@ pub const FAULTS: &[(&str, Misread)] = &[
 /// Writes P's three bytes, low to top.
 fn period(record: &mut [u8; RECORD], bytes: [u8; 3]) {
     [record[4], record[5], record[7]] = bytes;
+}
+
+/// The call with each of these, which shows in one of these parts.
+pub fn of_call(call: Call, parts: &[Part]) -> impl Iterator<Item = Fault> {
+    FAULTS.iter().map(move |&(name, misread)| {
+        in_call(call, name, parts, move |lent| {
+            let mut file = change_records(lent.file, misread);
+            Lent { file: &mut file, ..lent.again() }.right()
+        })
+    })
 }

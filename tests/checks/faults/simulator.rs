@@ -1,144 +1,90 @@
-//! The second simulator as an engine. A fault replaces some of its calls, or changes what they give.
+//! The second simulator as an engine with a fault, and what the comparison is to tell of it.
 
-use second::calls;
-use second::host::{Engine, returned};
+use second::calls::simulator;
+use second::lent::{Call, Lent, Part};
 use second::plan::refuse;
-use second::recent::Record;
 
-/// What a call gave, for a fault to change: its answer, the state, the deliveries of a step and
-/// the target of writing.
-pub struct Given<'a> {
-    pub call: &'static str,
-    pub answer: u64,
-    pub state: &'a mut [u32],
-    pub delivery: &'a mut [u32],
-    pub target: &'a mut [u8],
+/// A fault.
+pub struct Fault {
+    pub name: String,
+    /// The call and the part of what it leaves that are to be told, as the comparison names them.
+    pub told: Vec<(&'static str, String)>,
+    pub kind: Kind,
+    /// It sees the other calls too, which it has as they should be.
+    pub sees_all: bool,
 }
 
-impl<'a> Given<'a> {
-    fn new(call: &'static str, answer: u64, state: &'a mut [u32]) -> Given<'a> {
-        Given { call, answer, state, delivery: &mut [], target: &mut [] }
-    }
+/// What has the fault: a call of the engine or of the bounds, or the listing.
+pub enum Kind {
+    Call(Call, Box<dyn Fn(&mut Lent) -> u64>),
+    Listing(Box<dyn Fn(&[u8]) -> String>),
 }
 
-/// What a refused call answers.
+/// A fault made by hand: its name, the part in which it shows, and a call with that fault in it.
+pub type Slip = (&'static str, Part, fn(&mut Lent) -> u64);
+
+/// The call with this fault, which shows in one of these parts.
+pub fn in_call(
+    call: Call,
+    name: impl AsRef<str>,
+    parts: &[Part],
+    does: impl Fn(&mut Lent) -> u64 + 'static,
+) -> Fault {
+    let name = format!("{}: {}", call.name(), name.as_ref());
+    let told = parts.iter().map(|part| (call.name(), part.name())).collect();
+    Fault { name, told, kind: Kind::Call(call, Box::new(does)), sees_all: false }
+}
+
+/// The call with each of these faults.
+pub fn slips(call: Call, slips: &'static [Slip]) -> impl Iterator<Item = Fault> {
+    slips.iter().map(move |&(name, part, does)| in_call(call, name, &[part], does))
+}
+
+/// What a refused call returns, unless it is the window's.
 pub fn refused(number: u64, place: usize) -> u64 {
-    returned(refuse(number, place))
+    Call::Notes.returned(refuse(number, place))
 }
 
 /// One call with what is lent to it, for a fault to answer in its place or to change what it leaves.
-pub trait OneCall: Sized {
+pub trait OneCall {
     /// The call without a fault.
     fn right(&mut self) -> u64;
+
+    /// What the call without a fault answers. What is lent stays.
+    fn answer(&self) -> u64;
 
     /// The number that the call without a fault answers, or 0. What is lent stays.
     fn number(&self) -> u64;
 
     /// The call, but for this answer in place of a number, where this holds.
-    fn but(mut self, number: u64, answer: u64, holds: impl Fn(&Self) -> bool) -> u64 {
-        if self.number() == number && holds(&self) { answer } else { self.right() }
-    }
+    fn but(&mut self, number: u64, answer: u64, holds: impl Fn(&Self) -> bool) -> u64;
 
     /// The call, and this change where it answers a number.
-    fn then(mut self, number: u64, change: impl Fn(&mut Self)) -> u64 {
+    fn then(&mut self, number: u64, change: impl FnOnce(&mut Self)) -> u64;
+}
+
+impl OneCall for Lent<'_> {
+    fn right(&mut self) -> u64 {
+        simulator(self)
+    }
+
+    fn answer(&self) -> u64 {
+        simulator(&mut self.copied().lent())
+    }
+
+    fn number(&self) -> u64 {
+        self.call.number(self.answer())
+    }
+
+    fn but(&mut self, number: u64, answer: u64, holds: impl Fn(&Self) -> bool) -> u64 {
+        if self.number() == number && holds(self) { answer } else { self.right() }
+    }
+
+    fn then(&mut self, number: u64, change: impl FnOnce(&mut Self)) -> u64 {
         let answer = self.right();
-        if answer >> 32 == number {
-            change(&mut self);
+        if self.call.number(answer) == number {
+            change(self);
         }
         answer
-    }
-}
-
-/// The calls, as the second simulator has them.
-pub trait Calls {
-    fn reset(&self, file: &[u8], state: &mut [u32]) -> u64 {
-        returned(calls::reset(file, state))
-    }
-
-    fn offer(&self, state: &mut [u32], flow: u32) -> u64 {
-        returned(calls::offer(state, flow))
-    }
-
-    fn offer_trial(&self, state: &mut [u32], flow: u32) -> u64 {
-        returned(calls::offer_trial(state, flow))
-    }
-
-    fn offer_set(&self, state: &mut [u32], flows: &[u32]) -> u64 {
-        returned(calls::offer_set(state, flows))
-    }
-
-    fn step(&self, state: &mut [u32], delivery: &mut [u32]) -> u64 {
-        returned(calls::step(state, delivery))
-    }
-
-    fn steps(&self, state: &mut [u32], delivery: &mut [u32], cycles: u32) -> u64 {
-        returned(calls::steps(state, delivery, cycles))
-    }
-
-    fn step_reasons(&self, state: &mut [u32], delivery: &mut [u32], reasons: &mut [u32]) -> u64 {
-        returned(calls::step_reasons(state, delivery, reasons))
-    }
-
-    fn recent(&self, state: &[u32], deliveries: &[u32], records: &mut [Record], last: u32) -> u64 {
-        returned(calls::recent(state, deliveries, records, last))
-    }
-
-    fn write(&self, state: &[u32], notes: &[u8], target: &mut [u8]) -> u64 {
-        returned(calls::write(state, notes, target))
-    }
-
-    /// The answer to a call that gave this.
-    fn give(&self, given: Given) -> u64 {
-        given.answer
-    }
-}
-
-/// An engine with these calls.
-pub struct Host<C>(pub C);
-
-impl<C: Calls> Engine for Host<C> {
-    fn reset(&self, file: &[u8], state: &mut [u32]) -> u64 {
-        let answer = self.0.reset(file, state);
-        self.0.give(Given::new("reset", answer, state))
-    }
-
-    fn offer(&self, state: &mut [u32], flow: u32) -> u64 {
-        let answer = self.0.offer(state, flow);
-        self.0.give(Given::new("offer", answer, state))
-    }
-
-    fn offer_trial(&self, state: &mut [u32], flow: u32) -> u64 {
-        let answer = self.0.offer_trial(state, flow);
-        self.0.give(Given::new("offer_trial", answer, state))
-    }
-
-    fn offer_set(&self, state: &mut [u32], flows: &[u32]) -> u64 {
-        let answer = self.0.offer_set(state, flows);
-        self.0.give(Given::new("offer_set", answer, state))
-    }
-
-    fn step(&self, state: &mut [u32], delivery: &mut [u32]) -> u64 {
-        let answer = self.0.step(state, delivery);
-        self.0.give(Given { delivery, ..Given::new("step", answer, state) })
-    }
-
-    fn steps(&self, state: &mut [u32], delivery: &mut [u32], cycles: u32) -> u64 {
-        let answer = self.0.steps(state, delivery, cycles);
-        self.0.give(Given { delivery, ..Given::new("steps", answer, state) })
-    }
-
-    fn step_reasons(&self, state: &mut [u32], delivery: &mut [u32], reasons: &mut [u32]) -> u64 {
-        let answer = self.0.step_reasons(state, delivery, reasons);
-        self.0.give(Given { delivery, ..Given::new("step_reasons", answer, state) })
-    }
-
-    fn recent(&self, state: &[u32], deliveries: &[u32], records: &mut [Record], last: u32) -> u64 {
-        let answer = self.0.recent(state, deliveries, records, last);
-        self.0.give(Given::new("recent", answer, &mut state.to_vec()))
-    }
-
-    fn write(&self, state: &[u32], notes: &[u8], target: &mut [u8]) -> u64 {
-        let answer = self.0.write(state, notes, target);
-        self.0.give(Given { target, ..Given::new("write", answer, &mut state.to_vec()) })
     }
 }

@@ -27,7 +27,7 @@ pub fn run(print: impl Fn(&[u8]) -> Vec<u8>, seed: u64, extent: Extent) -> Tally
     rounds("listing", &mut tally, extent, |tally, random, sx, sy| {
         round(&print, tally, random, sx, sy)
     });
-    tally.must_have_come_up("listing", &[1, 2, 3, 4, 5, 6, 7]);
+    tally.must_have_come_up("listing", 1..=7);
     tally
 }
 
@@ -59,9 +59,12 @@ fn round(print: Print, tally: &mut Tally, random: &mut Random, sx: i64, sy: i64)
 fn compare(print: Print, tally: &mut Tally, file: &[u8]) {
     let expected = listing(file);
     let got = print(file);
-    let number = read(file).map_or_else(|no| no.number, |_| 0);
-    *tally.answers.entry(("listing", number)).or_default() += 1;
+    tally.count("listing", read(file).map_or_else(|no| no.number, |_| 0));
     tally.words += got.len() as u64;
     let got = String::from_utf8_lossy(&got);
-    assert_eq!(expected, got, "seed {}, file {file:?}", tally.seed);
+    let seed = tally.seed;
+    assert!(
+        expected == got,
+        "seed {seed}, listing, text: expected {expected:?}, got {got:?}; {file:?}"
+    );
 }

@@ -1,60 +1,52 @@
 //! Many steps in one call, beside single ones on the same states: refusals, early ends, the last clock and
 //! idle stretches.
 
-use super::engine::step;
 use super::periods::waiting_state;
-use super::recent::Kept;
 use super::states::{three_queues, whole_and_broken};
-use super::steps::Lent;
-use super::{Tally, Twin};
-use crate::book::{Book, Bucket};
-use crate::host::Engine;
+use super::{Memory, Run, recent, steps};
+use crate::book::{Book, Bucket, PER_DELIVERY};
+use crate::lent::Call;
 use crate::plan::{Flow, MOST_PERIOD, Plan};
 use crate::random::{self, LONG_PERIODS, Random};
 use crate::state::{HEADER, PER_FLOW, judge, waiting_at, words};
 
 const MOST: u32 = u32::MAX;
 
-/// Refusals in every order, room for so many steps and a word about it, the last clock, tokens that come
-/// about the end of a call, and buckets over long stretches.
-pub fn boundaries(host: &impl Engine, tally: &mut Tally, random: &mut Random) {
-    orders(host, tally, random);
-    exact_rooms(host, tally, random);
-    last_clocks(host, tally, random);
+/// Room for so many steps and a word about it, the last clock, tokens that come about the end of a call, and
+/// buckets over long stretches.
+pub fn boundaries(run: &mut Run) {
+    exact_rooms(run);
+    last_clocks(run);
     for period in [1, 2, 3, 10].into_iter().chain(LONG_PERIODS) {
         for count in [0, 1, period - 2, period - 1] {
-            tokens(host, tally, random, period, count.clamp(0, period - 1));
+            tokens(run, period, count.clamp(0, period - 1));
         }
     }
-    stretches(host, tally, random);
+    stretches(run);
 }
 
 /// One call on such words, with noise around them and for the deliveries. Gives the clock afterwards and
 /// the count of exits, if it is accepted.
-fn call(
-    host: &impl Engine,
-    tally: &mut Tally,
-    random: &mut Random,
-    state: &[u32],
-    room: usize,
-    cycles: u32,
-) -> Option<(u32, u64)> {
-    let run = &mut Twin::words(random, state, 1);
-    let (_, exits) = step(host, tally, run, Lent::many(random, room, cycles))?;
-    Some((run.expected()[3], exits))
+fn call(run: &mut Run, state: &[u32], room: usize, cycles: u32) -> Option<(u32, u64)> {
+    let memory = &mut run.on(state, 1);
+    let steps = steps::many(run.random, memory, room, cycles);
+    let exits = run.call(steps, memory).ok()?;
+    Some((memory.words()[3], exits))
 }
 
 /// Each refusal alone, and in front of and behind each other one, for a plain step and for no cycle, one,
 /// a few and the most.
-fn orders(host: &impl Engine, tally: &mut Tally, random: &mut Random) {
+pub fn orders(run: &mut Run) {
     for clock in [7, MOST - 1, MOST] {
         let mut state = three_queues([1, 0, 2]);
         state[3] = clock;
         for state in whole_and_broken(&state) {
             for room in [0, 3, 29, 30, 31, 99] {
-                let many = [0, 1, 3, MOST].map(|cycles| Lent::many(random, room, cycles));
-                for lent in many.into_iter().chain([Lent::plain(random, room)]) {
-                    step(host, tally, &mut Twin::words(random, &state, 0), lent);
+                let many = [0, 1, 3, MOST].map(Call::Steps);
+                for call in many.into_iter().chain([Call::Step]) {
+                    let memory = &mut run.on(&state, 0);
+                    steps::plain(run.random, memory, room);
+                    run.accepts(call, memory);
                 }
             }
         }
@@ -63,7 +55,7 @@ fn orders(host: &impl Engine, tally: &mut Tally, random: &mut Random) {
 
 /// One router, from which a packet leaves in every cycle: it runs as many steps as there are whole groups
 /// of five words, or as many as it is asked for.
-fn exact_rooms(host: &impl Engine, tally: &mut Tally, random: &mut Random) {
+fn exact_rooms(run: &mut Run) {
     let flows = vec![Flow::from_numbers([0, 0, 0, 0, 1, 1])];
     let mut state = words(&Book::new(Plan { sx: 1, sy: 1, flows }));
     state[waiting_at(0)] = 400;
@@ -71,19 +63,19 @@ fn exact_rooms(host: &impl Engine, tally: &mut Tally, random: &mut Random) {
         for cycles in [0, 1, 2, 3, 4, 5, 6, 300, MOST] {
             let ran = cycles.min(room as u32 / 5);
             let expected = Some((ran, ran as u64));
-            assert_eq!(call(host, tally, random, &state, room, cycles), expected, "{room}");
+            assert_eq!(call(run, &state, room, cycles), expected, "{room}");
         }
     }
 }
 
 /// Clocks near the last one, which a step or an idle stretch reaches or would pass.
-fn last_clocks(host: &impl Engine, tally: &mut Tally, random: &mut Random) {
+fn last_clocks(run: &mut Run) {
     for before in [1, 2, 3, 9, 10, 11, 70_000] {
         for waiting in [[0, 0, 0], [1, 0, 2]] {
             let mut state = three_queues(waiting);
             state[3] = MOST - before;
             for cycles in [0, 1, before - 1, before, before + 1, MOST] {
-                let called = call(host, tally, random, &state, 60, cycles);
+                let called = call(run, &state, 60, cycles);
                 let clock = state[3] + cycles.min(before);
                 assert_eq!(called.map(|(clock, _)| clock), Some(clock), "{cycles}");
             }
@@ -93,20 +85,20 @@ fn last_clocks(host: &impl Engine, tally: &mut Tally, random: &mut Random) {
 
 /// Two packets wait for a token each. The first comes before the call's end, at the end or behind it, and
 /// so does the second; a packet leaves in the second cycle with its token.
-fn tokens(host: &impl Engine, tally: &mut Tally, random: &mut Random, period: i64, count: i64) {
+fn tokens(run: &mut Run, period: i64, count: i64) {
     let state = waiting_state(period as u32, count as u32);
     let come = [period - count, 2 * period - count];
     let about = come.into_iter().flat_map(|comes| (-2..4).map(move |more| comes + more));
     for cycles in about.chain([MOST as i64]).filter(|&cycles| cycles >= 0) {
         let left = come.into_iter().filter(|comes| comes + 2 <= cycles).count() as u64;
-        let called = call(host, tally, random, &state, 20, cycles as u32);
+        let called = call(run, &state, 20, cycles as u32);
         assert_eq!(called, Some((cycles as u32, left)), "P {period}, count {count}");
     }
 }
 
 /// Flows that don't wait, with any tokens and counts, beside one that does and has none, over stretches
 /// of all lengths. In the longest a count and the cycles together pass 32 bits.
-fn stretches(host: &impl Engine, tally: &mut Tally, random: &mut Random) {
+fn stretches(run: &mut Run) {
     let periods = [1, 2, 3, 10, 65_535, 65_536, MOST_PERIOD];
     let flow = |period| Flow { xs: 0, ys: 0, xd: 1, yd: 1, period, burst: 3 };
     let flows = periods.iter().flat_map(|&period| [flow(period); 4]).collect();
@@ -120,7 +112,7 @@ fn stretches(host: &impl Engine, tally: &mut Tally, random: &mut Random) {
         let mut state = words(&book);
         state[waiting_at(last)] = waiting;
         for cycles in [0, 1, 2, 9, 10, 11, 255, 65_535, 65_536, 16_777_214, 1 << 31, MOST] {
-            let called = call(host, tally, random, &state, 25, cycles);
+            let called = call(run, &state, 25, cycles);
             assert_eq!(called.map(|(clock, _)| clock), Some(cycles));
         }
     }
@@ -128,7 +120,7 @@ fn stretches(host: &impl Engine, tally: &mut Tally, random: &mut Random) {
 
 /// Idle stretches that end where another flow's packet enters or leaves: one flow waits for two tokens of
 /// period 100, one for three of period 7, and one enters at once.
-pub fn interrupted(host: &impl Engine, tally: &mut Tally, random: &mut Random) {
+pub fn interrupted(run: &mut Run) {
     let flows = [[0, 0, 1, 1, 100, 2], [1, 1, 1, 1, 7, 1], [0, 1, 1, 0, 50, 1]];
     let mut book = Book::new(Plan { sx: 2, sy: 2, flows: flows.map(Flow::from_numbers).to_vec() });
     for (flow, waiting) in [(0, 2), (1, 3), (2, 1)] {
@@ -139,14 +131,14 @@ pub fn interrupted(host: &impl Engine, tally: &mut Tally, random: &mut Random) {
     for cycles in (0..30).chain(95..110).chain(195..210).chain([MOST]) {
         let left = entries.into_iter().zip([2, 0, 0, 0, 2, 2]);
         let left = left.filter(|(entry, flies)| entry + flies < cycles).count() as u64;
-        let called = call(host, tally, random, &words(&book), 60, cycles);
+        let called = call(run, &words(&book), 60, cycles);
         assert_eq!(called, Some((cycles, left)));
     }
 }
 
 /// Some cycles, none, one, a few or many, seldom millions, and room for a few steps that take so many words
 /// each, or a word or two too few for one.
-pub fn lent(random: &mut Random, least: usize) -> Lent {
+pub fn any(random: &mut Random, memory: &mut Memory, least: usize) -> Call {
     let cycles = match random.from(0, 99) {
         0..10 => 0,
         10..20 => 1,
@@ -156,70 +148,74 @@ pub fn lent(random: &mut Random, least: usize) -> Lent {
     };
     let room = random.pick(&[1, 1, 2, 3, 6]) * least + random.index(12);
     let less = random.index(3);
-    Lent::many(random, room - less, cycles as u32)
+    steps::many(random, memory, room - less, cycles as u32)
 }
 
 /// Calls on a state of a plan, each on what the last one left; rooms that a step just needs; single steps
 /// beside many; and the same plan with hardly anything to do.
-pub fn round(host: &impl Engine, tally: &mut Tally, random: &mut Random, sx: i64, sy: i64) {
-    let flows = random::flow_count(random);
-    let plan = random::plan(random, sx, sy, flows);
-    let state = random::state(random, &plan);
-    let run = &mut Twin::words(random, &state, 2);
+pub fn round(run: &mut Run, sx: i64, sy: i64) {
+    let flows = random::flow_count(run.random);
+    let plan = random::plan(run.random, sx, sy, flows);
+    let state = random::state(run.random, &plan);
+    let memory = &mut run.on(&state, 2);
     for _ in 0..3 {
-        step(host, tally, run, lent(random, 5 * plan.routers()));
+        let steps = any(run.random, memory, plan.delivery_words());
+        run.accepts(steps, memory);
     }
-    rooms_about_a_step(host, tally, random, &state);
-    many_and_one_by_one(host, tally, random, &state);
-    let quiet = quiet(random, &state);
-    let run = &mut Twin::words(random, &quiet, 2);
+    rooms_about_a_step(run, &state);
+    many_and_one_by_one(run, &state);
+    let quiet = quiet(run.random, &state);
+    let memory = &mut run.on(&quiet, 2);
     for _ in 0..4 {
-        let cycles = about_a_token(random, run.expected());
-        step(host, tally, run, Lent::many(random, 5 * plan.routers() + 400, cycles));
+        let cycles = about_a_token(run.random, memory.words());
+        let steps = steps::many(run.random, memory, plan.delivery_words() + 400, cycles);
+        run.accepts(steps, memory);
     }
 }
 
 /// Room that is just enough for a later step, a word less and a word more.
-fn rooms_about_a_step(host: &impl Engine, tally: &mut Tally, random: &mut Random, state: &[u32]) {
+fn rooms_about_a_step(run: &mut Run, state: &[u32]) {
     let mut book = judge(state).unwrap();
-    let least = 5 * book.plan.routers();
-    let before = random.from(1, 9) as u32;
+    let before = run.random.from(1, 9) as u32;
     let Ok(exits) = book.steps(usize::MAX, before) else {
         return;
     };
-    let enough = least + 5 * exits.len();
+    let enough = book.plan.delivery_words() + PER_DELIVERY * exits.len();
     for room in [enough - 1, enough, enough + 1] {
-        let cycles = random.pick(&[before, before + 1, before + 2, MOST]);
-        call(host, tally, random, state, room, cycles);
+        let cycles = run.random.pick(&[before, before + 1, before + 2, MOST]);
+        call(run, state, room, cycles);
     }
 }
 
 /// What many steps leave of the state, of the records that are fed with their deliveries, and what they
 /// deliver: the same as single steps of the same engine, fed one by one.
-fn many_and_one_by_one(host: &impl Engine, tally: &mut Tally, random: &mut Random, state: &[u32]) {
-    let (flows, routers) = (state[2] as usize, (state[0] * state[1]) as usize);
-    let cycles = random.from(1, 9) as u32;
-    let mut whole = Twin::words(random, state, 1);
-    let mut single = Twin::new(whole.got.clone());
-    let mut kept = Kept::new(random, flows);
-    let mut kept_singly = kept.clone();
-    let lent = Lent::many(random, 5 * routers * cycles as usize, cycles);
-    let Some((mut all, exits)) = step(host, tally, &mut whole, lent) else {
+fn many_and_one_by_one(run: &mut Run, state: &[u32]) {
+    let plan = judge(state).unwrap().plan;
+    let cycles = run.random.from(1, 9) as u32;
+    let whole = &mut run.on(state, 1);
+    let last = recent::keep(run.random, whole, plan.flows.len());
+    let single = &mut whole.clone();
+    let room = plan.delivery_words() * cycles as usize;
+    let steps = steps::many(run.random, whole, room, cycles);
+    let Some(delivered) = kept(run, steps, whole, last) else {
         return;
     };
-    let delivered = all.delivery.got()[..5 * exits as usize].to_vec();
-    kept.feed(host, tally, random, &mut whole, all.delivery, exits);
     let mut delivered_singly = Vec::new();
     for _ in 0..cycles {
-        let lent = Lent::plain(random, 5 * routers);
-        if let Some((mut one, exits)) = step(host, tally, &mut single, lent) {
-            delivered_singly.extend_from_slice(&one.delivery.got()[..5 * exits as usize]);
-            kept_singly.feed(host, tally, random, &mut single, one.delivery, exits);
-        }
+        let step = steps::plain(run.random, single, plan.delivery_words());
+        delivered_singly.extend(kept(run, step, single, last).unwrap_or_default());
     }
-    assert_eq!(whole.got, single.got, "seed {}: many steps, one by one", tally.seed);
-    assert_eq!(delivered, delivered_singly, "seed {}: many steps, one by one", tally.seed);
-    assert_eq!(kept, kept_singly, "seed {}: many steps, one by one", tally.seed);
+    assert_eq!(whole.state, single.state, "seed {}: many steps, one by one", run.tally.seed);
+    assert_eq!(delivered, delivered_singly, "seed {}: many steps, one by one", run.tally.seed);
+    assert_eq!(whole.records, single.records, "seed {}: many steps, one by one", run.tally.seed);
+}
+
+/// A step and what it delivers, which is fed to the records, if it is accepted.
+fn kept(run: &mut Run, step: Call, memory: &mut Memory, last: u32) -> Option<Vec<u32>> {
+    let exits = run.call(step, memory).ok()?;
+    let delivered = memory.delivery.got()[..PER_DELIVERY * exits as usize].to_vec();
+    recent::feed_step(run, memory, exits, last);
+    Some(delivered)
 }
 
 /// The state with hardly anything to do: seldom a packet in flight, few flows that wait, and these mostly

@@ -1,8 +1,10 @@
 //! The parts of the comparison: fixed boundaries first, then rounds. Each round has a seed of its
 //! own, the last one's + 1, which gives the torus too, so that 256 rounds go through all sizes.
 
-use super::{Tally, bounds, engine, lists, many, periods, reasons, recent, sets, states, trial};
-use crate::host::{Bounds, Engine};
+use super::{
+    Others, Run, Tally, bounds, engine, lists, many, periods, reasons, recent, sets, states, trial,
+};
+use crate::lent::Engine;
 use crate::random::{Random, plan};
 use std::time::{Duration, Instant};
 
@@ -16,55 +18,82 @@ pub enum Extent {
 const GATE_ROUNDS: u64 = 512;
 
 /// The window, the flight bound and the notes.
-pub fn bounds(host: &impl Bounds, seed: u64, extent: Extent) -> Tally {
-    let mut tally = Tally::new(seed);
-    bounds::boundaries(host, &mut tally);
+pub fn bounds(host: Engine, seed: u64, extent: Extent) -> Tally {
+    bounds_of(&mut Others::one(host), seed, extent)
+}
+
+pub fn bounds_of(others: &mut Others, seed: u64, extent: Extent) -> Tally {
+    let (mut tally, mut random) = (Tally::new(seed), Random::new(seed));
+    bounds::boundaries(&mut Run { others, tally: &mut tally, random: &mut random });
     rounds("bounds", &mut tally, extent, |tally, random, sx, sy| {
-        bounds::round(host, tally, random, sx, sy);
+        bounds::round(&mut Run { others, tally, random }, sx, sy);
     });
-    bounds::all_came_up(&tally);
+    engine::all_came_up(&tally, true);
     tally
 }
 
 /// Reset, offer, the trial generator's offer, sets of offers, all forms of step, recent flights and write.
-pub fn engine(host: &impl Engine, seed: u64, extent: Extent) -> Tally {
-    let mut tally = Tally::new(seed);
-    let mut random = Random::new(seed);
-    many::boundaries(host, &mut tally, &mut random);
-    reasons::boundaries(host, &mut tally, &mut random);
-    periods::slow_states(host, &mut tally, &mut random);
-    recent::boundaries(host, &mut tally, &mut random);
-    trial::boundaries(host, &mut tally, &mut random);
-    states::boundaries(host, &mut tally, &mut random);
-    sets::boundaries(host, &mut tally, &mut random);
-    periods::round_trips(host, &mut tally, &mut random);
+pub fn engine(host: Engine, seed: u64, extent: Extent) -> Tally {
+    engine_of(&mut Others::one(host), seed, extent)
+}
+
+pub fn engine_of(others: &mut Others, seed: u64, extent: Extent) -> Tally {
+    let (mut tally, mut random) = (Tally::new(seed), Random::new(seed));
+    boundaries(&mut Run { others, tally: &mut tally, random: &mut random });
     let by_hand = tally.reasons;
     rounds("engine", &mut tally, extent, |tally, random, sx, sy| {
-        lists::round(host, tally, random, sx, sy);
-        states::round(host, tally, random, sx, sy);
-        recent::round(host, tally, random, sx, sy);
-        sets::round(host, tally, random, sx, sy);
-        trial::round(host, tally, random, sx, sy);
-        reasons::round(host, tally, random, sx, sy);
-        many::round(host, tally, random, sx, sy);
+        let run = &mut Run { others, tally, random };
+        for round in [
+            lists::round,
+            states::round,
+            recent::round,
+            sets::round,
+            trial::round,
+            reasons::round,
+            many::round,
+        ] {
+            round(run, sx, sy);
+        }
     });
     if let Extent::Gate = extent {
         reasons::came_up_often([0, 1, 2, 3, 4, 5].map(|at| tally.reasons[at] - by_hand[at]));
     }
-    lists::worst_lists(host, &mut tally, &mut random);
-    lists::slow_list(host, &mut tally, &mut random);
-    lists::last_cycles(host, &mut tally, &mut random);
-    many::interrupted(host, &mut tally, &mut random);
-    lists::full_queue(host, &mut tally, &mut random);
-    lists::full_queues_by_sets(host, &mut tally, &mut random);
-    trial::queues(host, &mut tally, &mut random);
-    for (size, flows) in [(4, 16), (8, 64), (16, 256)] {
-        let plan = plan(&mut random, size, size, flows);
-        lists::saturated(host, &mut tally, &mut random, plan, 60);
-    }
-    sets::past_all_queues(host, &mut tally, &mut random);
-    engine::all_came_up(&tally);
+    long_lists(&mut Run { others, tally: &mut tally, random: &mut random });
+    engine::all_came_up(&tally, false);
     tally
+}
+
+/// What is at a boundary of one of the engine's calls, the quickest first.
+pub fn boundaries(run: &mut Run) {
+    trial::boundaries(run);
+    sets::boundaries(run);
+    many::orders(run);
+    reasons::orders(run);
+    states::writes(run);
+    states::resets(run);
+    recent::boundaries(run);
+    many::boundaries(run);
+    periods::slow_states(run);
+    states::boundaries(run);
+    reasons::boundaries(run);
+    sets::long_lists(run);
+    periods::round_trips(run);
+}
+
+/// Lists that are long, or that take long queues.
+fn long_lists(run: &mut Run) {
+    lists::worst_lists(run);
+    lists::slow_list(run);
+    lists::last_cycles(run);
+    many::interrupted(run);
+    lists::full_queue(run);
+    lists::full_queues_by_sets(run);
+    trial::queues(run);
+    for (size, flows) in [(4, 16), (8, 64), (16, 256)] {
+        let plan = plan(run.random, size, size, flows);
+        lists::saturated(run, plan, 60);
+    }
+    sets::past_all_queues(run);
 }
 
 pub(crate) fn rounds(

@@ -1,13 +1,12 @@
 //! Periods of three bytes, by U5: plan files with each boundary of P, rivals that are slow, states of
 //! slow flows, and plan files that come back from their states byte for byte.
 
-use super::steps::Lent;
-use super::{Tally, Twin, engine, states};
+use super::{Memory, Run, Twin, engine, states, steps};
 use crate::book::Book;
-use crate::host::Engine;
+use crate::lent::Call;
 use crate::plan::{Flow, MOST_PERIOD, Plan, file_of};
-use crate::random::{LONG_PERIODS, Random};
-use crate::state::words;
+use crate::random::LONG_PERIODS;
+use crate::state::{size, words};
 
 /// Files with each boundary of P, and with the refusals 6 and 7 in every order, for P of two bytes and
 /// of three.
@@ -86,21 +85,22 @@ pub fn filled_links() -> Vec<Plan> {
 
 /// States of a flow that waits for a token: every call on them, and steps in a row about the end of its
 /// period and where bytes of its count turn over. And periods that are too long for a state.
-pub fn slow_states(host: &impl Engine, tally: &mut Tally, random: &mut Random) {
+pub fn slow_states(run: &mut Run) {
     for period in LONG_PERIODS {
         for turn in [256, 65_536, period - 65_536, period] {
             let count = (turn - 3).clamp(0, period - 1);
             let state = waiting_state(period as u32, count as u32);
-            states::every_call(host, tally, random, &state);
-            let run = &mut Twin::words(random, &state, 1);
+            states::every_call(run, &state);
+            let memory = &mut run.on(&state, 1);
             for _ in 0..6 {
-                engine::step(host, tally, run, Lent::any(random, 10, 1));
+                let step = steps::any(run.random, memory, 10, 1);
+                run.accepts(step, memory);
             }
         }
     }
     let past = MOST_PERIOD as u32 + 1;
     for period in [past, past + 1, past + 65_536, 1 << 31, u32::MAX] {
-        states::every_call(host, tally, random, &waiting_state(period, 0));
+        states::every_call(run, &waiting_state(period, 0));
     }
 }
 
@@ -113,20 +113,21 @@ pub fn waiting_state(period: u32, count: u32) -> Vec<u32> {
 }
 
 /// Plan files with every low and middle byte of P come back from their states byte for byte.
-pub fn round_trips(host: &impl Engine, tally: &mut Tally, random: &mut Random) {
+pub fn round_trips(run: &mut Run) {
     for top in [0, 1, 255] {
         for middle in 0..=255 {
             let records: Vec<_> = (0..=255).map(|low| record(low, middle, 1, top)).collect();
-            round_trip(host, tally, random, &file(&records));
+            round_trip(run, &file(&records));
         }
     }
 }
 
 /// A reset, and what writing gives back of its state: the same bytes.
-fn round_trip(host: &impl Engine, tally: &mut Tally, random: &mut Random, file: &[u8]) {
-    let mut state = Twin::noise_words(random, 8 + 10 * 256 + 8 * 15);
-    if engine::reset(host, tally, file, &mut state) {
-        let mut target = engine::write(host, tally, random, &mut state, &[], file.len());
-        assert!(target.got() == file, "expected the bytes that reset read: {file:?}");
+fn round_trip(run: &mut Run, file: &[u8]) {
+    let memory = &mut Memory::of_file(file);
+    memory.state = Twin::noise_words(run.random, size(256, 15));
+    if run.accepts(Call::Reset, memory) {
+        engine::write(run, memory, &[], file.len());
+        assert!(memory.target.got() == file, "expected the bytes that reset read: {file:?}");
     }
 }

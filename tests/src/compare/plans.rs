@@ -1,19 +1,20 @@
 //! Plan files at the boundary of each refusal, and damaged ones.
 
 use super::periods;
-use crate::plan::{Flow, MOST_BYTES, MOST_PERIOD, Plan};
+use crate::plan::{Flow, MOST_BYTES, MOST_PERIOD, Plan, RECORD, TRAILER, file_of};
 use crate::random::Random;
 
-/// Files on both sides of the refusals 1 to 7, with one fault and with two at once.
+/// Files on both sides of the refusals 1 to 7, with one fault and with two at once. Those with late windows, which
+/// take longest, are the last.
 pub fn at_boundaries() -> Vec<Vec<u8>> {
-    let mut files: Vec<_> = late_windows().iter().map(|plan| plan.file(&[])).collect();
-    files.extend(periods::files());
+    let mut files = periods::files();
     files.extend(changed(&base(), &[0, 1, 2, 3, 4, 5, 15, 16, 17, 254, 255]));
     for file in changed(&base(), &[0, 17]) {
         files.extend(changed(&file, &[0, 17]));
     }
     files.extend(lengths());
     files.extend([1, 2, 3].map(wrapped_start));
+    files.extend(late_windows().iter().map(|plan| plan.file(&[])));
     files
 }
 
@@ -52,7 +53,7 @@ fn base() -> Vec<u8> {
 /// The file with one byte changed: each byte of records and trailer, to each of these values.
 fn changed(file: &[u8], values: &[u8]) -> Vec<Vec<u8>> {
     let mut files = Vec::new();
-    for at in file.len() - 36..file.len() {
+    for at in file.len() - 3 * RECORD - TRAILER..file.len() {
         for &value in values {
             let mut changed = file.to_vec();
             changed[at] = value;
@@ -65,14 +66,14 @@ fn changed(file: &[u8], values: &[u8]) -> Vec<Vec<u8>> {
 /// So many records are missing in front, and the start is as far below 2^32: no match, since
 /// nothing wraps.
 fn wrapped_start(missing: usize) -> Vec<u8> {
-    let mut file = base().split_off(5 + 8 * missing);
-    let trailer = file.len() - 12;
-    let start = (8 * missing as u32).wrapping_neg();
+    let mut file = base().split_off(5 + RECORD * missing);
+    let trailer = file.len() - TRAILER;
+    let start = ((RECORD * missing) as u32).wrapping_neg();
     file[trailer..trailer + 4].copy_from_slice(&start.to_le_bytes());
     file
 }
 
-/// Lengths from 0, the longest file and one byte more, and the counts 1, 256 and 257.
+/// Lengths from 0, the longest file and one byte more, with other refusals too, and the counts 1, 256 and 257.
 fn lengths() -> Vec<Vec<u8>> {
     let base = base();
     let mut files: Vec<Vec<u8>> = (0..=base.len()).map(|length| base[..length].to_vec()).collect();
@@ -84,6 +85,9 @@ fn lengths() -> Vec<Vec<u8>> {
         for notes in [0, 1, room - 1, room, room + 1] {
             files.push(plan.file(&vec![0x48; notes]));
         }
+    }
+    for record in [[16, 0, 0, 0, 9, 0, 1, 0], [0; RECORD]] {
+        files.push(file_of(&vec![0x48; MOST_BYTES - RECORD - TRAILER + 1], &[record], 16, 16));
     }
     files.push(vec![0; MOST_BYTES]);
     files.push(vec![0; MOST_BYTES + 1]);

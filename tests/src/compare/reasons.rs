@@ -1,67 +1,69 @@
 //! Steps with reasons, beside plain ones on the same states: answer, state, deliveries and reasons as U7
 //! states them.
 
-use super::engine::{offer_set, step};
-use super::scenes::{all_pairs, scenes};
+use super::Run;
+use super::scenes::{Scene, all_pairs, scenes};
+use super::sets::{self, offer_set};
 use super::states::{three_queues, whole_and_broken};
-use super::steps::{Lent, about};
-use super::{Tally, Twin, sets};
-use crate::host::Engine;
-use crate::random::{self, Random};
+use super::steps::{self, about};
+use crate::lent::Call;
+use crate::random;
 use crate::state::waiting_at;
 
 /// How often each reason comes up in the gate's rounds at the least.
 const OFTEN: u64 = 5000;
 
-/// Scenes, refusals in every order, and lengths of all memories about their limits.
-pub fn boundaries(host: &impl Engine, tally: &mut Tally, random: &mut Random) {
+/// Scenes, and lengths of all memories about their limits.
+pub fn boundaries(run: &mut Run) {
     for scene in scenes() {
         for period in [1, 9] {
-            let (state, flows) = (scene.state(period), scene.flows.len());
-            let told = in_turn(host, tally, random, &state, 5 * scene.sx * scene.sy);
-            assert_eq!(told[..flows], scene.reasons, "{}, P {period}", scene.what);
+            let told = in_turn(run, &scene, period);
+            assert_eq!(told[..scene.flows.len()], scene.reasons, "{}, P {period}", scene.what);
         }
     }
     for scene in all_pairs() {
-        let period = random.pick(&[1, 9]);
-        in_turn(host, tally, random, &scene.state(period), 45);
+        let period = run.random.pick(&[1, 9]);
+        in_turn(run, &scene, period);
     }
-    orders(host, tally, random);
     for (size, flows) in [(1, 1), (16, 1), (2, 2), (3, 16), (1, 255), (1, 256), (16, 256)] {
-        lengths(host, tally, random, size, flows);
+        lengths(run, size, flows);
     }
 }
 
-/// Steps with reasons and plain ones in turn, from this state on. Gives what the first tells, and the
-/// words behind it.
-fn in_turn(
-    host: &impl Engine,
-    tally: &mut Tally,
-    random: &mut Random,
-    state: &[u32],
-    room: i64,
-) -> Vec<u32> {
-    let (room, told) = (room as usize, state[2] as usize + 2);
-    let run = &mut Twin::words(random, state, 1);
-    let (mut first, _) = step(host, tally, run, Lent::telling(random, room, told)).unwrap();
+/// Steps with reasons and plain ones in turn, from this scene on, and every other form of step on it. Gives what
+/// the first tells, and the words behind it.
+fn in_turn(run: &mut Run, scene: &Scene, period: i64) -> Vec<u32> {
+    let (room, told) = (scene.plan(period).delivery_words(), scene.flows.len() + 2);
+    let memory = &mut run.on(&scene.state(period), 1);
+    let mut step = steps::telling(run.random, memory, room, told);
+    run.call(step, memory).unwrap();
+    let first = memory.reasons.expected().to_vec();
     for _ in 0..2 {
-        step(host, tally, run, Lent::plain(random, room));
-        step(host, tally, run, Lent::telling(random, room, told));
+        step = steps::plain(run.random, memory, room);
+        run.accepts(step, memory);
+        step = steps::telling(run.random, memory, room, told);
+        run.accepts(step, memory);
     }
-    first.told().to_vec()
+    for single in [Call::Step, Call::Steps(1)] {
+        let memory = &mut run.on(&scene.state(period), 1);
+        steps::plain(run.random, memory, room);
+        run.accepts(single, memory);
+    }
+    first
 }
 
 /// Each refusal alone, and in front of and behind each other one: words that form no state, too few of
 /// them, and in the last cycle, each with memories that are too short, long enough or longer.
-fn orders(host: &impl Engine, tally: &mut Tally, random: &mut Random) {
+pub fn orders(run: &mut Run) {
     for clock in [7, u32::MAX - 1, u32::MAX] {
         let mut state = three_queues([1, 0, 2]);
         state[3] = clock;
         for state in whole_and_broken(&state) {
             for room in [0, 3, 29, 30, 31, 99] {
                 for told in [0, 1, 2, 3, 4, 99] {
-                    let run = &mut Twin::words(random, &state, 0);
-                    step(host, tally, run, Lent::telling(random, room, told));
+                    let memory = &mut run.on(&state, 0);
+                    let step = steps::telling(run.random, memory, room, told);
+                    run.accepts(step, memory);
                 }
             }
         }
@@ -70,37 +72,41 @@ fn orders(host: &impl Engine, tally: &mut Tally, random: &mut Random) {
 
 /// A plan of so many flows on a square torus, with every length of both memories about its limit, on a state
 /// with short queues, which is judged often. Words after the last flow stay.
-fn lengths(host: &impl Engine, tally: &mut Tally, random: &mut Random, size: i64, flows: usize) {
-    let plan = random::plan(random, size, size, flows);
-    let mut state = random::state(random, &plan);
+fn lengths(run: &mut Run, size: i64, flows: usize) {
+    let plan = random::plan(run.random, size, size, flows);
+    let mut state = random::state(run.random, &plan);
     while state[3] == u32::MAX || (0..flows).any(|flow| state[waiting_at(flow)] > 999) {
-        state = random::state(random, &plan);
+        state = random::state(run.random, &plan);
     }
-    let least = 5 * plan.routers();
+    let least = plan.delivery_words();
     for room in [0, least - 1, least, least + 1, least + 99, 5000] {
         for told in [0, 1, flows - 1, flows, flows + 1, flows + 2, 2 * flows + 9, 1280, 5000] {
-            let run = &mut Twin::words(random, &state, 3);
-            let stepped = step(host, tally, run, Lent::telling(random, room, told));
-            assert_eq!(stepped.is_some(), room >= least && told >= flows, "{room}, {told}");
+            let memory = &mut run.on(&state, 3);
+            let step = steps::telling(run.random, memory, room, told);
+            let enough = room >= least && told >= flows;
+            assert_eq!(run.accepts(step, memory), enough, "{room}, {told}");
         }
     }
 }
 
 /// Steps on a state of a plan, most of them with reasons, each on what the last one left, with packets
 /// offered between them.
-pub fn round(host: &impl Engine, tally: &mut Tally, random: &mut Random, sx: i64, sy: i64) {
-    let flows = random::flow_count(random);
-    let plan = random::plan(random, sx, sy, flows);
-    let state = random::state(random, &plan);
-    let run = &mut Twin::words(random, &state, 2);
+pub fn round(run: &mut Run, sx: i64, sy: i64) {
+    let flows = random::flow_count(run.random);
+    let plan = random::plan(run.random, sx, sy, flows);
+    let state = random::state(run.random, &plan);
+    let memory = &mut run.on(&state, 2);
     for _ in 0..8 {
-        let (room, told) = (about(random, 5 * plan.routers()), about(random, flows));
-        step(host, tally, run, Lent::telling(random, room, told));
-        if random.percent(30) {
-            step(host, tally, run, Lent::plain(random, room));
+        let room = about(run.random, plan.delivery_words());
+        let told = about(run.random, flows);
+        let step = steps::telling(run.random, memory, room, told);
+        run.accepts(step, memory);
+        if run.random.percent(30) {
+            let step = steps::plain(run.random, memory, room);
+            run.accepts(step, memory);
         }
-        let list = sets::list(random, flows);
-        offer_set(host, tally, run, &mut sets::lent(random, &list, flows));
+        let list = sets::list(run.random, flows);
+        offer_set(run, memory, &list, flows);
     }
 }
 

@@ -22,11 +22,15 @@ pub type Waits = [i64; 6];
 pub type Packet = (usize, [i64; 2], Side, i64);
 
 impl Scene {
+    /// Its plan, with this period of all flows.
+    pub fn plan(&self, period: i64) -> Plan {
+        let flow = |&[xs, ys, xd, yd, ..]: &Waits| Flow { xs, ys, xd, yd, period, burst: 2 };
+        Plan { sx: self.sx, sy: self.sy, flows: self.flows.iter().map(flow).collect() }
+    }
+
     /// Its words, with this period of all flows.
     pub fn state(&self, period: i64) -> Vec<u32> {
-        let flow = |&[xs, ys, xd, yd, ..]: &Waits| Flow { xs, ys, xd, yd, period, burst: 2 };
-        let flows = self.flows.iter().map(flow).collect();
-        let mut book = Book::new(Plan { sx: self.sx, sy: self.sy, flows });
+        let mut book = Book::new(self.plan(period));
         book.clock = 90;
         book.entered.fill(3);
         for (bucket, flow) in book.buckets.iter_mut().zip(&self.flows) {
@@ -208,6 +212,13 @@ const ELSEWHERE: &[Elsewhere] = &[
         &[4, 4, 1, 1, 0],
     ),
     ("one column, N leaves below", [1, 3], COLUMN, &[(2, [0, 2], N, 0)], &[0, 5, 1, 1, 4]),
+    (
+        "one column, N leaves below, deflected",
+        [1, 3],
+        COLUMN,
+        &[(2, [0, 2], N, 1)],
+        &[0, 5, 1, 1, 4],
+    ),
     ("one row", [3, 1], ROW, &[], &[0, 5, 1, 1, 0]),
     ("one row, W goes on", [3, 1], ROW, &[(2, [1, 0], W, 0)], &[3, 0, 1, 1, 0]),
     ("one row, W leaves", [3, 1], ROW, &[(3, [1, 0], W, 0)], &[3, 4, 1, 1, 0]),

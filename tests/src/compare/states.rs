@@ -1,42 +1,64 @@
 //! States that no run reaches, damaged words, and lent lengths from 0.
 
-use super::recent::{self, Kept};
-use super::steps::{Lent, about};
-use super::{Tally, Twin, engine, plans, sets};
-use crate::book::Book;
-use crate::host::Engine;
+use super::steps::about;
+use super::{Memory, Run, Twin, engine, plans, recent, sets, steps};
+use crate::book::{Book, PER_DELIVERY};
+use crate::lent::Call;
 use crate::offers::MOST_WAITING;
-use crate::plan::{Flow, MOST_BYTES, MOST_PERIOD, Plan};
+use crate::plan::{Flow, MOST_BYTES, MOST_PERIOD, Plan, RECORD, TRAILER};
 use crate::random::{self, Random};
 use crate::state::{HEADER, PER_FLOW, PER_REGISTER, age, places, register_at, waiting_at, words};
 
-/// Every boundary of reset, every word of a small state set to each telling value, and a full queue.
-pub fn boundaries(host: &impl Engine, tally: &mut Tally, random: &mut Random) {
+/// Every boundary of reset.
+pub fn resets(run: &mut Run) {
     for file in plans::at_boundaries() {
-        let length = random.pick(&[0, 7, 8, 157, 158, 159, 5000]);
-        engine::reset(host, tally, &file, &mut Twin::noise_words(random, length));
+        let length = run.random.pick(&[0, 7, 8, 157, 158, 159, 5000]);
+        let mut memory = Memory::of_file(&file);
+        memory.state = Twin::noise_words(run.random, length);
+        run.accepts(Call::Reset, &mut memory);
     }
+}
+
+/// Writing with each refusal alone, and in front of and behind each other one: notes and targets about their limits.
+pub fn writes(run: &mut Run) {
+    let least = RECORD * 3 + TRAILER;
+    for state in whole_and_broken(&three_queues([0; 3])) {
+        for notes in [0, MOST_BYTES - least, MOST_BYTES - least + 1] {
+            for room in [0, notes + least - 1, notes + least, notes + least + 1] {
+                let memory = &mut run.on(&state, 0);
+                engine::write(run, memory, &vec![7; notes], room);
+            }
+        }
+    }
+}
+
+/// Every word of a small state set to each telling value, and the state lent in part: each length from 0 to its
+/// size.
+pub fn boundaries(run: &mut Run) {
     let small = small_state();
+    for length in 0..=small.len() {
+        calls_with_past(run, &small[..length], 0);
+    }
     for at in 0..small.len() {
         for value in telling_values(small[at]) {
             let mut state = small.clone();
             state[at] = value;
-            every_call(host, tally, random, &state);
+            every_call(run, &state);
             if at < HEADER {
                 // What the first eight words say comes before the length of the rest.
-                calls_with_past(host, tally, random, &state[..HEADER], 0);
+                calls_with_past(run, &state[..HEADER], 0);
             }
         }
     }
-    lent_lengths(host, tally, random, &small);
-    full_queue(host, tally, random, small);
+    full_queue(run, small);
 }
 
 /// An offer where one packet more may wait, and one where none may.
-fn full_queue(host: &impl Engine, tally: &mut Tally, random: &mut Random, mut state: Vec<u32>) {
+fn full_queue(run: &mut Run, mut state: Vec<u32>) {
     for waiting in [MOST_WAITING - 1, MOST_WAITING] {
         state[waiting_at(0)] = waiting as u32;
-        engine::offer(host, tally, &mut Twin::words(random, &state, 0), 0);
+        let memory = &mut run.on(&state, 0);
+        run.accepts(Call::Offer(0), memory);
     }
 }
 
@@ -74,7 +96,7 @@ pub fn three_queues(waiting: [u32; 3]) -> Vec<u32> {
     state
 }
 
-/// A state of three flows or more, and what isn't one: cut short, or with a word past its range.
+/// A state of three flows or more, and what isn't one: cut short, with a word past its range, or both.
 pub fn whole_and_broken(state: &[u32]) -> Vec<Vec<u32>> {
     let (size, tokens) = (state.len(), HEADER + 6);
     let cut = [0, 7, HEADER, size - 1].map(|length| state[..length].to_vec());
@@ -84,7 +106,8 @@ pub fn whole_and_broken(state: &[u32]) -> Vec<Vec<u32>> {
         state[at] = u32::MAX;
         state
     });
-    [&[state.to_vec()][..], &cut, &changed].concat()
+    let both = [&changed[0][..7], &changed[0][..HEADER], &changed[2][..size - 1]];
+    [&[state.to_vec()][..], &cut, &changed, &both.map(<[u32]>::to_vec)].concat()
 }
 
 fn telling_values(word: u32) -> Vec<u32> {
@@ -98,95 +121,74 @@ fn telling_values(word: u32) -> Vec<u32> {
 
 /// The offers, all forms of step, recent flights and write, each on its own copy of the words, with some
 /// noise past them.
-pub fn every_call(host: &impl Engine, tally: &mut Tally, random: &mut Random, state: &[u32]) {
-    let past = random.index(5);
-    calls_with_past(host, tally, random, state, past);
+pub fn every_call(run: &mut Run, state: &[u32]) {
+    let past = run.random.index(5);
+    calls_with_past(run, state, past);
 }
 
-fn calls_with_past(
-    host: &impl Engine,
-    tally: &mut Tally,
-    random: &mut Random,
-    state: &[u32],
-    past: usize,
-) {
-    let flows = state.get(2).map_or(1, |&flows| flows.min(300));
+fn calls_with_past(run: &mut Run, state: &[u32], past: usize) {
+    let flows = state.get(2).map_or(1, |&flows| flows.min(300)) as usize;
     let routers = match state {
         [sx, sy, ..] => (*sx as usize).min(17) * (*sy as usize).min(17),
         _ => 1,
     };
-    let flow = if random.percent(5) { random.word() } else { random.from(0, flows as i64) as u32 };
-    engine::offer(host, tally, &mut Twin::words(random, state, past), flow);
-    engine::offer_trial(host, tally, &mut Twin::words(random, state, past), flow);
-    let filled = &mut Twin::words(random, state, past);
-    sets::on_words(host, tally, random, filled, flows as usize);
-    let room = about(random, 5 * routers);
-    let told = about(random, flows as usize);
-    let cycles = random.pick(&[0, 1, 1, 2, 9]);
-    for lent in [
-        Lent::plain(random, room),
-        Lent::telling(random, room, told),
-        Lent::many(random, room, cycles),
-    ] {
-        engine::step(host, tally, &mut Twin::words(random, state, past), lent);
+    let any = run.random.index(flows + 1) as u32;
+    let flow = if run.random.percent(5) { run.random.word() } else { any };
+    let room = about(run.random, PER_DELIVERY * routers);
+    let told = about(run.random, flows);
+    let cycles = run.random.pick(&[0, 1, 1, 2, 9]);
+    let steps = [Call::Step, Call::StepReasons, Call::Steps(cycles)];
+    for call in [Call::Offer(flow), Call::OfferTrial(flow)].into_iter().chain(steps) {
+        let memory = &mut run.on(state, past);
+        steps::telling(run.random, memory, room, told);
+        run.accepts(call, memory);
     }
-    let fed = &mut Twin::words(random, state, past);
-    recent::on_words(host, tally, random, fed, flows as usize);
-    let written = &mut Twin::words(random, state, past);
-    write(host, tally, random, written, flows as usize);
+    for on_words in [sets::on_words, recent::on_words, write] {
+        let memory = &mut run.on(state, past);
+        on_words(run, memory, flows);
+    }
 }
 
 /// Writing with lengths about their limits: the target's, or seldom the longest file's.
-fn write(
-    host: &impl Engine,
-    tally: &mut Tally,
-    random: &mut Random,
-    state: &mut Twin<u32>,
-    flows: usize,
-) {
-    let least = 8 * flows + 12;
+fn write(run: &mut Run, memory: &mut Memory, flows: usize) {
+    let least = RECORD * flows + TRAILER;
     let near = |random: &mut Random, length: usize| (length + random.index(3)).saturating_sub(1);
+    let random = &mut *run.random;
     let notes = if random.percent(3) { near(random, MOST_BYTES - least) } else { random.index(20) };
     let room = if random.percent(10) { random.index(40) } else { near(random, notes + least) };
     let notes = random.bytes(notes);
-    engine::write(host, tally, random, state, &notes, room);
-}
-
-/// The state lent in part: each length from 0 to its size.
-fn lent_lengths(host: &impl Engine, tally: &mut Tally, random: &mut Random, state: &[u32]) {
-    for length in 0..=state.len() {
-        calls_with_past(host, tally, random, &state[..length], 0);
-    }
+    engine::write(run, memory, &notes, room);
 }
 
 /// Made-up states of a plan on this torus: calls on them, steps in a row with their flights kept, and
 /// damaged copies.
-pub fn round(host: &impl Engine, tally: &mut Tally, random: &mut Random, sx: i64, sy: i64) {
-    let flows = random::flow_count(random);
-    let plan = random::plan(random, sx, sy, flows);
-    let state = random::state(random, &plan);
-    every_call(host, tally, random, &state);
-    let mut run = Twin::words(random, &state, 2);
-    let mut kept = Kept::new(random, flows);
-    for _ in 0..random.from(1, 12) {
-        let lent = Lent::any(random, 5 * plan.routers(), flows);
-        if let Some((lent, exits)) = engine::step(host, tally, &mut run, lent) {
-            kept.feed(host, tally, random, &mut run, lent.delivery, exits);
+pub fn round(run: &mut Run, sx: i64, sy: i64) {
+    let flows = random::flow_count(run.random);
+    let plan = random::plan(run.random, sx, sy, flows);
+    let state = random::state(run.random, &plan);
+    every_call(run, &state);
+    let memory = &mut run.on(&state, 2);
+    let last = recent::keep(run.random, memory, flows);
+    for _ in 0..run.random.from(1, 12) {
+        let step = steps::any(run.random, memory, plan.delivery_words(), flows);
+        if let Ok(exits) = run.call(step, memory) {
+            recent::feed_step(run, memory, exits, last);
         }
     }
     for _ in 0..8 {
         let mut damaged = state.clone();
-        damage(random, &plan, &mut damaged);
-        every_call(host, tally, random, &damaged);
+        damage(run.random, &plan, &mut damaged);
+        every_call(run, &damaged);
     }
-    let file = plan.file(&random::notes(random, &plan));
-    let length = (plan.state_words() + random.index(4)).saturating_sub(1);
-    let mut memory = Twin::noise_words(random, length);
-    engine::reset(host, tally, &file, &mut memory);
-    every_call(host, tally, random, memory.expected());
-    let mut damaged = file;
-    plans::damage(random, &mut damaged);
-    engine::reset(host, tally, &damaged, &mut memory);
+    let mut file = plan.file(&random::notes(run.random, &plan));
+    let length = (plan.state_words() + run.random.index(4)).saturating_sub(1);
+    let mut memory = Memory::of_file(&file);
+    memory.state = Twin::noise_words(run.random, length);
+    run.accepts(Call::Reset, &mut memory);
+    every_call(run, memory.words());
+    plans::damage(run.random, &mut file);
+    memory.file = Twin::exact(&file);
+    run.accepts(Call::Reset, &mut memory);
 }
 
 /// Damages the words in one or two ways. They may still form a state.
