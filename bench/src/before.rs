@@ -3,7 +3,7 @@
 
 use crate::calls;
 use crate::times::Sides;
-use second::archive::Archive;
+use second::archive::archive;
 use std::sync::atomic::{AtomicU8, Ordering};
 
 unsafe extern "C" {
@@ -20,8 +20,8 @@ fn take(side: usize) {
 /// switch says, so it isn't timed.
 pub fn time(lacking: &[&str]) {
     let sides = Sides { names: ["before", "now"], before_turn: take, lacking };
-    calls::bounds(sides, &Archive, &Archive);
-    calls::engine(sides, &Archive, &Archive);
+    calls::bounds(sides, &archive, &archive);
+    calls::engine(sides, &archive, &archive);
     for function in lacking {
         println!("{function}: not timed, the archive before lacks it");
     }

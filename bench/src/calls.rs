@@ -2,9 +2,9 @@
 
 use crate::loads::{Case, Load, SIZES, case};
 use crate::many_steps;
-use crate::plain::{EXIT, Plain};
+use crate::plain::{EXIT, step};
 use crate::times::{Sides, print_row};
-use second::host::{Bounds, Engine};
+use second::lent::{Call, Copied, Engine, Lent};
 use second::recent::Record;
 use std::hint::black_box;
 
@@ -14,13 +14,39 @@ const LONG: usize = 4096;
 /// The packets of every flow that wait for the trial generator's offers. A batch of them is accepted.
 const FEW: u32 = 100;
 
+/// Makes a call another one, by its position in a row of them.
+type Change = fn(&mut Lent, usize);
+
+/// A row of calls: its name, the function of hrt.h, what the first is lent, and what changes from one to the
+/// next.
+type Timed = (&'static str, &'static str, Copied, Change);
+
+/// So many calls in a row. Each turn starts from the same state.
+pub fn batch<'a>(
+    host: Engine<'a>,
+    mut memories: Copied,
+    calls: usize,
+    change: Change,
+) -> impl FnMut() + use<'a> {
+    let state = memories.state.clone();
+    move || {
+        memories.state.copy_from_slice(&state);
+        let lent = &mut memories.lent();
+        for at in 0..calls {
+            change(lent, at);
+            black_box(host(lent));
+        }
+    }
+}
+
 /// The cases of these loads whose plans both sides take.
-fn cases(loads: &[Load], taken: impl Fn(&Case) -> bool) -> Vec<Case> {
+pub fn cases(sides: Sides, first: Engine, second: Engine, loads: &[Load]) -> Vec<Case> {
+    let is_taken = |host: Engine, case: &Case| host(&mut on_file(case, Call::Notes).lent()) == 0;
     let mut cases = Vec::new();
     for (size, flows) in SIZES {
         for &load in loads {
             let case = case(size, flows, load);
-            if taken(&case) {
+            if sides.both(|| is_taken(first, &case), || is_taken(second, &case)) {
                 cases.push(case);
             } else {
                 let load = load.name();
@@ -31,199 +57,100 @@ fn cases(loads: &[Load], taken: impl Fn(&Case) -> bool) -> Vec<Case> {
     cases
 }
 
+/// What a call on a plan file is lent.
+fn on_file(case: &Case, call: Call) -> Copied {
+    Copied { call, file: case.file.clone(), ..Copied::default() }
+}
+
 /// Window of each flow, and the bounds of the whole listing.
-pub fn bounds(sides: Sides, first: &impl Bounds, second: &impl Bounds) {
-    let taken =
-        |case: &Case| sides.both(|| first.notes(&case.file) == 0, || second.notes(&case.file) == 0);
+pub fn bounds(sides: Sides, first: Engine, second: Engine) {
+    let loads = [Load::Light, Load::Slow, Load::Climbing, Load::Saturated];
     sides.print_header();
-    for case in cases(&[Load::Light, Load::Slow, Load::Climbing, Load::Saturated], taken) {
-        let flows = case.flows;
-        print_row(
-            "window",
-            &case,
-            sides.alternate(flows, || windows(first, &case), || windows(second, &case)),
-        );
-        print_row(
-            "bounds",
-            &case,
-            sides.alternate(1, || all_bounds(first, &case), || all_bounds(second, &case)),
-        );
+    for case in cases(sides, first, second, &loads) {
+        let (flows, lent) = (case.flows, on_file(&case, Call::Notes));
+        let windows = |host| batch(host, lent.clone(), flows, |lent, at| lent.call = window(at));
+        print_row("window", &case, sides.alternate(flows, windows(first), windows(second)));
+        let bounds = |host| batch(host, lent.clone(), 1 + 2 * flows, next_bound);
+        print_row("bounds", &case, sides.alternate(1, bounds(first), bounds(second)));
     }
 }
 
-fn windows(host: &impl Bounds, case: &Case) {
-    for flow in 0..case.flows as u32 {
-        black_box(host.window(&case.file, flow));
-    }
+fn window(flow: usize) -> Call {
+    Call::Window(flow as u32)
 }
 
-fn all_bounds(host: &impl Bounds, case: &Case) {
-    black_box(host.notes(&case.file));
-    for flow in 0..case.flows as u32 {
-        black_box((host.window(&case.file, flow), host.flight(&case.file, flow)));
-    }
+/// The notes, then window and flight bound of each flow.
+fn next_bound(lent: &mut Lent, at: usize) {
+    lent.call = match at {
+        0 => Call::Notes,
+        _ if at % 2 == 1 => window(at / 2),
+        _ => Call::Flight((at / 2 - 1) as u32),
+    };
 }
 
-/// Step, plain and with reasons, offer, the trial generator's offer, sets of offers, recent flights, reset,
-/// write and many steps: the calls that both sides have.
-pub fn engine(sides: Sides, first: &impl Engine, second: &impl Engine) {
+/// All forms of step and offer, reset, write, recent flights and many steps: the calls that both sides have.
+pub fn engine(sides: Sides, first: Engine, second: Engine) {
     sides.print_header();
-    for case in engine_cases(sides, first, second, &[Load::Light, Load::Slow, Load::Saturated]) {
+    for case in cases(sides, first, second, &[Load::Light, Load::Slow, Load::Saturated]) {
         let state = case.state();
-        print_row(
-            "step",
-            &case,
-            sides.alternate(
-                BATCH,
-                steps(&state, BATCH, case.room(), |words, delivery| first.step(words, delivery)),
-                steps(&state, BATCH, case.room(), |words, delivery| second.step(words, delivery)),
-            ),
-        );
-        if sides.both_have("hrt_step_reasons") {
-            print_row(
-                "reasons",
-                &case,
-                sides.alternate(
-                    BATCH,
-                    steps(&state, BATCH, case.room(), telling(first, &case)),
-                    steps(&state, BATCH, case.room(), telling(second, &case)),
-                ),
-            );
-        }
-        print_row(
-            "offer",
-            &case,
-            sides.alternate(
-                BATCH,
-                offers(&case, &state, |words, flow| first.offer(words, flow)),
-                offers(&case, &state, |words, flow| second.offer(words, flow)),
-            ),
-        );
-        if sides.both_have("hrt_offer_trial") {
-            let state = case.with_waiting(state.clone(), FEW);
-            print_row(
-                "trial",
-                &case,
-                sides.alternate(
-                    BATCH,
-                    offers(&case, &state, |words, flow| first.offer_trial(words, flow)),
-                    offers(&case, &state, |words, flow| second.offer_trial(words, flow)),
-                ),
-            );
-        }
-        if sides.both_have("hrt_offer_set") {
-            for (name, entries) in [("set", case.flows), ("set 4096", LONG)] {
-                print_row(
-                    name,
-                    &case,
-                    sides.alternate(
-                        BATCH,
-                        sets(first, &case, &state, entries),
-                        sets(second, &case, &state, entries),
-                    ),
-                );
+        for (name, function, lent, change) in rows(&case, &state) {
+            if sides.both_have(function) {
+                let row = |host| batch(host, lent.clone(), BATCH, change);
+                print_row(name, &case, sides.alternate(BATCH, row(first), row(second)));
             }
         }
         if sides.both_have("hrt_recent") {
             for (name, last) in [("recent16", 16), ("recent 4", 4)] {
-                print_row(
-                    name,
-                    &case,
-                    sides.alternate(
-                        BATCH,
-                        feeds(first, &case, &state, last),
-                        feeds(second, &case, &state, last),
-                    ),
-                );
+                let row = |host| feeds(host, &case, &state, last);
+                print_row(name, &case, sides.alternate(BATCH, row(first), row(second)));
             }
         }
-        print_row(
-            "reset",
-            &case,
-            sides.alternate(BATCH, resets(first, &case), resets(second, &case)),
-        );
-        print_row(
-            "write",
-            &case,
-            sides.alternate(BATCH, writes(first, &case, &state), writes(second, &case, &state)),
-        );
     }
     if sides.both_have("hrt_steps") {
         many_steps::time(sides, first, second);
     }
 }
 
-/// The cases of these loads whose plans both engines take.
-pub fn engine_cases(
-    sides: Sides,
-    first: &impl Engine,
-    second: &impl Engine,
-    loads: &[Load],
-) -> Vec<Case> {
-    cases(loads, |case| sides.both(|| is_reset(first, case), || is_reset(second, case)))
-}
-
-/// Does the engine take the plan?
-fn is_reset(host: &impl Engine, case: &Case) -> bool {
-    host.reset(&case.file, &mut vec![0; case.words()]) == 0
-}
-
-/// So many calls in a row that step, each with this room for deliveries. Each turn starts from the same
-/// state.
-pub fn steps(
-    state: &[u32],
-    calls: usize,
-    room: usize,
-    mut step: impl FnMut(&mut [u32], &mut [u32]) -> u64,
-) -> impl FnMut() {
-    let mut memory = state.to_vec();
-    let mut delivery = vec![0; room];
-    move || {
-        memory.copy_from_slice(state);
-        for _ in 0..calls {
-            black_box(step(&mut memory, &mut delivery));
-        }
-    }
-}
-
-/// A step with reasons, which has words for every flow.
-fn telling(host: &impl Engine, case: &Case) -> impl FnMut(&mut [u32], &mut [u32]) -> u64 {
-    let mut reasons = vec![0; case.flows];
-    move |words, delivery| host.step_reasons(words, delivery, black_box(&mut reasons))
-}
-
-/// Single offers by this call, with every flow in turn.
-fn offers(case: &Case, state: &[u32], offer: impl Fn(&mut [u32], u32) -> u64) -> impl FnMut() {
-    let mut memory = state.to_vec();
-    let flows = case.flows;
-    move || {
-        memory.copy_from_slice(state);
-        for call in 0..BATCH {
-            black_box(offer(&mut memory, (call % flows) as u32));
-        }
-    }
-}
-
-/// Sets of so many entries, with every flow in turn.
-fn sets(host: &impl Engine, case: &Case, state: &[u32], entries: usize) -> impl FnMut() {
-    let mut memory = state.to_vec();
-    let list: Vec<u32> = (0..entries).map(|entry| (entry % case.flows) as u32).collect();
-    move || {
-        memory.copy_from_slice(state);
-        for _ in 0..BATCH {
-            black_box(host.offer_set(&mut memory, &list));
-        }
-    }
+/// A batch of each call from this state, with every flow in turn.
+fn rows(case: &Case, state: &[u32]) -> Vec<Timed> {
+    let stays: Change = |_, _| ();
+    let on_state = |call| case.stepping(state, call);
+    let set = |entries| {
+        let list = (0..entries).map(|entry| (entry % case.flows) as u32).collect();
+        Copied { list, ..on_state(Call::OfferSet) }
+    };
+    let trial = case.with_waiting(state.to_vec(), FEW);
+    let reasons = vec![0; case.flows];
+    vec![
+        ("step", "hrt_step", on_state(Call::Step), stays),
+        ("reasons", "hrt_step_reasons", Copied { reasons, ..on_state(Call::StepReasons) }, stays),
+        ("offer", "hrt_offer", on_state(Call::Offer(0)), |lent, at| {
+            lent.call = Call::Offer(at as u32 % lent.state[2])
+        }),
+        ("trial", "hrt_offer_trial", case.stepping(&trial, Call::OfferTrial(0)), |lent, at| {
+            lent.call = Call::OfferTrial(at as u32 % lent.state[2])
+        }),
+        ("set", "hrt_offer_set", set(case.flows), stays),
+        ("set 4096", "hrt_offer_set", set(LONG), stays),
+        ("reset", "hrt_reset", Copied { file: case.file.clone(), ..on_state(Call::Reset) }, stays),
+        (
+            "write",
+            "hrt_write",
+            Copied { target: vec![0; case.file.len()], ..on_state(Call::Write) },
+            stays,
+        ),
+    ]
 }
 
 /// The deliveries of steps in a row, each step's fed on the state that the last one leaves. The
 /// records are full for the most part.
-fn feeds(host: &impl Engine, case: &Case, state: &[u32], last: u32) -> impl FnMut() {
-    let (state, deliveries) = delivered(case, state);
-    let mut records = vec![Record::default(); case.flows];
+fn feeds<'a>(host: Engine<'a>, case: &Case, state: &[u32], last: u32) -> impl FnMut() + use<'a> {
+    let (state, mut deliveries) = delivered(case, state);
+    let records = vec![Record::default(); case.flows];
+    let mut memories = Copied { records, ..case.stepping(&state, Call::Recent(last)) };
     move || {
-        for deliveries in &deliveries {
-            black_box(host.recent(&state, deliveries, &mut records, last));
+        for deliveries in &mut deliveries {
+            black_box(host(&mut Lent { deliveries, ..memories.lent() }));
         }
     }
 }
@@ -232,28 +159,10 @@ fn feeds(host: &impl Engine, case: &Case, state: &[u32], last: u32) -> impl FnMu
 fn delivered(case: &Case, state: &[u32]) -> (Vec<u32>, Vec<Vec<u32>>) {
     let mut memory = state.to_vec();
     let mut delivery = vec![0; case.room()];
-    let mut step = || {
-        let exits = Plain.step(&mut memory, &mut delivery);
+    let mut deliver = || {
+        let exits = step(&mut memory, &mut delivery);
         delivery[..EXIT * exits as usize].to_vec()
     };
-    let deliveries = (0..BATCH).map(|_| step()).collect();
+    let deliveries = (0..BATCH).map(|_| deliver()).collect();
     (memory, deliveries)
-}
-
-fn resets(host: &impl Engine, case: &Case) -> impl FnMut() {
-    let mut memory = vec![0; case.words()];
-    move || {
-        for _ in 0..BATCH {
-            black_box(host.reset(&case.file, &mut memory));
-        }
-    }
-}
-
-fn writes(host: &impl Engine, case: &Case, state: &[u32]) -> impl FnMut() {
-    let mut target = vec![0; case.file.len()];
-    move || {
-        for _ in 0..BATCH {
-            black_box(host.write(state, &[], &mut target));
-        }
-    }
 }

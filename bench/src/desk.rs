@@ -2,7 +2,7 @@
 
 use crate::loads::{Case, Load, case};
 use crate::processor::{ended, own, stay};
-use second::host::Engine;
+use second::lent::{Call, Copied, Engine};
 use std::fmt::Write;
 use std::fs::{self, File};
 use std::hint::black_box;
@@ -32,7 +32,7 @@ fn stream(flows: usize, per_cycle: usize) -> Stream {
 }
 
 /// Times the program on 8 by 8 with 64 flows, with few packets waiting and with many.
-pub fn time(program: &str, archive: &impl Engine) {
+pub fn time(program: &str, archive: Engine) {
     let folder = std::env::temp_dir().join(format!("bench.{}", std::process::id()));
     fs::create_dir(&folder).unwrap();
     stay();
@@ -75,18 +75,27 @@ fn middle_ratio(pairs: &[[f64; 2]; PAIRS]) -> f64 {
 }
 
 /// The archive's own calls: each offer before the step of its cycle, until everything has left.
-fn calls(archive: &impl Engine, case: &Case, offers: &[(u32, u32)]) {
-    let mut state = vec![0; case.words()];
-    let mut delivery = vec![0; case.room()];
-    assert_eq!(archive.reset(&case.file, &mut state), 0);
+fn calls(archive: Engine, case: &Case, offers: &[(u32, u32)]) {
+    let mut memories = Copied {
+        file: case.file.clone(),
+        state: vec![0; case.words()],
+        delivery: vec![0; case.room()],
+        ..Copied::default()
+    };
+    memories.call = Call::Reset;
+    assert_eq!(archive(&mut memories.lent()), 0);
+    memories.call = Call::Step;
+    let mut lent = memories.lent();
     let mut here = 0;
     let mut offers = offers.iter().peekable();
     let mut clock = 0;
     while here > 0 || offers.peek().is_some() {
         while let Some((_, flow)) = offers.next_if(|(cycle, _)| *cycle == clock) {
-            here += (archive.offer(&mut state, *flow) == 0) as u64;
+            lent.call = Call::Offer(*flow);
+            here += (archive(&mut lent) == 0) as u64;
         }
-        here -= black_box(archive.step(&mut state, &mut delivery));
+        lent.call = Call::Step;
+        here -= black_box(archive(&mut lent));
         clock += 1;
     }
 }

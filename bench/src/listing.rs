@@ -1,9 +1,8 @@
 //! The whole listing: the program, and the same in plain Rust as a program of its own.
 
 use crate::loads::{Load, SIZES, case};
-use crate::plain::{Plain, numbers};
+use crate::plain::{flight, notes, numbers, window};
 use crate::times::{PLAIN_AND_ARCHIVE, print_row};
-use second::host::Bounds;
 use std::io::{Read, Write, stdin, stdout};
 use std::process::{Command, Stdio};
 
@@ -17,7 +16,7 @@ pub fn plain() {
 /// What the listing in plain Rust prints for this file.
 pub fn text(file: &[u8]) -> String {
     use std::fmt::Write;
-    let start = Plain.notes(file);
+    let start = notes(file);
     let mut text = String::new();
     if start >> 32 != 0 {
         return format!("refused {} {}\n", start >> 32, start as u32);
@@ -27,8 +26,8 @@ pub fn text(file: &[u8]) -> String {
     for (f, record) in records.iter().enumerate() {
         let [xs, _, xd, _, period, _] = numbers(record);
         let port = if xs == xd { 'S' } else { 'E' };
-        let flight = Plain.flight(file, f as u32);
-        let line = match Plain.window(file, f as u32) {
+        let flight = flight(file, f as u32);
+        let line = match window(file, f as u32) {
             t @ 1..65_536 => writeln!(text, "{f} {port} {t} {flight} {}", period + t - 2),
             _ => writeln!(text, "{f} {port} - {flight} -"),
         };

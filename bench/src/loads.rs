@@ -1,8 +1,8 @@
 //! The plans and states that are timed: three sizes, each with nothing to do, lightly and fully loaded,
 //! and with slow flows.
 
-use crate::plain::{Plain, delivery_words, state_words};
-use second::host::Engine;
+use crate::plain::{delivery_words, reset, state_words, step};
+use second::lent::{Call, Copied};
 use second::plan::{Flow, MOST_PERIOD, Plan};
 use second::random::Random;
 use second::state::{HEADER, PER_FLOW, waiting_at};
@@ -105,7 +105,7 @@ impl Case {
             state = self.with_waiting(state, 30_000);
         }
         for _ in 0..300 {
-            Plain.step(&mut state, &mut delivery);
+            step(&mut state, &mut delivery);
         }
         state
     }
@@ -113,13 +113,18 @@ impl Case {
     /// The state that the load starts from.
     pub fn start(&self) -> Vec<u32> {
         let mut state = vec![0; self.words()];
-        Plain.reset(&self.file, &mut state);
+        reset(&self.file, &mut state);
         match self.load {
             Load::Few => self.spread_tokens(&mut state),
             Load::Waiting => state[waiting_at(0)] = 30_000,
             _ => {}
         }
         state
+    }
+
+    /// What a call on such a state is lent, with room for a step's deliveries.
+    pub fn stepping(&self, state: &[u32], call: Call) -> Copied {
+        Copied { call, state: state.to_vec(), delivery: vec![0; self.room()], ..Copied::default() }
     }
 
     /// The flows' next tokens come one after the other, over a whole period.

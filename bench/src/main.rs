@@ -15,7 +15,9 @@ mod plain;
 mod processor;
 mod times;
 
-use plain::Plain;
+use plain::plain;
+#[cfg(any(feature = "bounds", feature = "engine"))]
+use second::archive::archive;
 use second::compare;
 use second::compare::parts::{self, Extent};
 use std::process::exit;
@@ -38,11 +40,11 @@ fn main() {
     }
     match words[..] {
         #[cfg(feature = "bounds")]
-        ["bounds"] => calls::bounds(PLAIN_AND_ARCHIVE, &Plain, &second::archive::Archive),
+        ["bounds"] => calls::bounds(PLAIN_AND_ARCHIVE, &plain, &archive),
         #[cfg(feature = "engine")]
         ["engine"] => {
-            calls::engine(PLAIN_AND_ARCHIVE, &Plain, &second::archive::Archive);
-            many_steps::time_beside_step(&second::archive::Archive);
+            calls::engine(PLAIN_AND_ARCHIVE, &plain, &archive);
+            many_steps::time_beside_step(&archive);
         }
         #[cfg(feature = "before")]
         ["before", ref lacking @ ..] => {
@@ -52,9 +54,7 @@ fn main() {
             }
         }
         #[cfg(feature = "engine")]
-        ["desk", program] if !program.starts_with("--") => {
-            desk::time(program, &second::archive::Archive)
-        }
+        ["desk", program] if !program.starts_with("--") => desk::time(program, &archive),
         ["listing", program] if !program.starts_with("--") => listing::time(program),
         ["plain-listing"] => listing::plain(),
         ["agree"] => agree(),
@@ -86,8 +86,8 @@ fn wrong(why: &str) -> ! {
 fn agree() {
     let plain_text = |file: &[u8]| listing::text(file).into_bytes();
     for (part, tally) in [
-        ("bounds", parts::bounds(&Plain, 1, Extent::Gate)),
-        ("engine", parts::engine(&Plain, 1, Extent::Gate)),
+        ("bounds", parts::bounds(&plain, 1, Extent::Gate)),
+        ("engine", parts::engine(&plain, 1, Extent::Gate)),
         ("listing", compare::listing::run(plain_text, 1, Extent::Gate)),
     ] {
         let (calls, memory) = (tally.calls(), tally.words);

@@ -1,9 +1,9 @@
 //! What is timed of many steps in one call, per cycle: beside another engine's, and beside single steps.
 
-use crate::calls::{engine_cases, steps};
+use crate::calls::{batch, cases};
 use crate::loads::{Case, Load, case};
 use crate::times::{Sides, print_row};
-use second::host::Engine;
+use second::lent::{Call, Engine};
 use std::hint::black_box;
 
 const LOADS: [Load; 4] = [Load::Idle, Load::Few, Load::Standard, Load::Saturated];
@@ -17,8 +17,8 @@ const PING_CYCLES: u32 = 100_000;
 const STEP_AND_STEPS: Sides = Sides { names: ["step", "steps"], before_turn: |_| (), lacking: &[] };
 
 /// Steps of both in one call, on states of every load and in streams of few packets.
-pub fn time(sides: Sides, first: &impl Engine, second: &impl Engine) {
-    for case in engine_cases(sides, first, second, &LOADS) {
+pub fn time(sides: Sides, first: Engine, second: Engine) {
+    for case in cases(sides, first, second, &LOADS) {
         let state = case.state();
         print_row(
             "steps",
@@ -45,13 +45,12 @@ pub fn time(sides: Sides, first: &impl Engine, second: &impl Engine) {
 }
 
 /// Steps in one call beside single steps of the same engine.
-pub fn time_beside_step(host: &impl Engine) {
+pub fn time_beside_step(host: Engine) {
     let sides = STEP_AND_STEPS;
     sides.print_header();
-    for case in engine_cases(sides, host, host, &LOADS) {
+    for case in cases(sides, host, host, &LOADS) {
         let state = case.state();
-        let step = |words: &mut [u32], delivery: &mut [u32]| host.step(words, delivery);
-        let single = steps(&state, CYCLES as usize, case.room(), step);
+        let single = batch(host, case.stepping(&state, Call::Step), CYCLES as usize, |_, _| ());
         print_row(
             "steps",
             &case,
@@ -61,22 +60,25 @@ pub fn time_beside_step(host: &impl Engine) {
 }
 
 /// Steps in one call, which has room for the deliveries of all.
-fn many(host: &impl Engine, case: &Case, state: &[u32]) -> impl FnMut() {
-    let room = CYCLES as usize * case.room();
-    steps(state, 1, room, |words, delivery| host.steps(words, delivery, CYCLES))
+fn many<'a>(host: Engine<'a>, case: &Case, state: &[u32]) -> impl FnMut() + use<'a> {
+    let mut lent = case.stepping(state, Call::Steps(CYCLES));
+    lent.delivery.resize(CYCLES as usize * case.room(), 0);
+    batch(host, lent, 1, |_, _| ())
 }
 
 /// Pings of all flows, each followed by steps in one call up to the next.
-fn stream(host: &impl Engine, case: &Case) -> impl FnMut() {
-    let state = case.start();
-    let mut memory = state.clone();
-    let mut delivery = vec![0; 2 * case.room()];
-    let flows: Vec<u32> = (0..case.flows as u32).collect();
+fn stream<'a>(host: Engine<'a>, case: &Case) -> impl FnMut() + use<'a> {
+    let mut lent = case.stepping(&case.start(), Call::OfferSet);
+    lent.delivery.resize(2 * case.room(), 0);
+    lent.list = (0..case.flows as u32).collect();
+    let start = lent.state.clone();
     move || {
-        memory.copy_from_slice(&state);
+        lent.state.copy_from_slice(&start);
         for _ in 0..PINGS {
-            black_box(host.offer_set(&mut memory, &flows));
-            black_box(host.steps(&mut memory, &mut delivery, PING_CYCLES));
+            for call in [Call::OfferSet, Call::Steps(PING_CYCLES)] {
+                lent.call = call;
+                black_box(host(&mut lent.lent()));
+            }
         }
     }
 }

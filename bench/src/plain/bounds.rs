@@ -1,8 +1,7 @@
 //! Window, flight bound and notes.
 
 use super::plan::{File, numbers, read};
-use super::{Plain, offset, refused};
-use second::host::Bounds;
+use super::{offset, refused};
 
 /// The spread of a flow at the source (x, y) of another whose port is E or S.
 fn spread(file: &File, x: u32, y: u32, east: bool, g: [u32; 6]) -> Option<u32> {
@@ -23,7 +22,7 @@ fn spread(file: &File, x: u32, y: u32, east: bool, g: [u32; 6]) -> Option<u32> {
 
 /// The least window: after a failed t the next to try is I(t) + 1, since I never falls.
 /// Where the rivals' rates fill the link there is none.
-fn window(file: &File, f: usize) -> Option<u32> {
+fn least_window(file: &File, f: usize) -> Option<u32> {
     let [x, y, xd, ..] = numbers(&file.records[f]);
     let mut rivals = [(0, 1); 256];
     let (mut count, mut burst, mut rates) = (0, 0, 0u64);
@@ -54,33 +53,31 @@ fn window(file: &File, f: usize) -> Option<u32> {
     None
 }
 
-impl Bounds for Plain {
-    fn window(&self, file: &[u8], flow: u32) -> u32 {
-        let file = match read(file) {
-            Ok(file) => file,
-            Err(no) => return 65_536 + (no >> 32) as u32,
-        };
-        let f = flow as usize;
-        if f >= file.records.len() {
-            return 65_536 + 12;
-        }
-        window(&file, f).unwrap_or(65_536 + 14)
+pub fn window(file: &[u8], flow: u32) -> u32 {
+    let file = match read(file) {
+        Ok(file) => file,
+        Err(no) => return 65_536 + (no >> 32) as u32,
+    };
+    let f = flow as usize;
+    if f >= file.records.len() {
+        return 65_536 + 12;
     }
+    least_window(&file, f).unwrap_or(65_536 + 14)
+}
 
-    fn flight(&self, file: &[u8], flow: u32) -> u64 {
-        let file = match read(file) {
-            Ok(file) => file,
-            Err(no) => return no,
-        };
-        let Some(record) = file.records.get(flow as usize) else {
-            return refused(12, 0);
-        };
-        let [xs, ys, xd, yd, ..] = numbers(record);
-        let (dx, dy) = (offset(xs, xd, file.sx), offset(ys, yd, file.sy));
-        (dx + dy + dy * file.sx + 2) as u64
-    }
+pub fn flight(file: &[u8], flow: u32) -> u64 {
+    let file = match read(file) {
+        Ok(file) => file,
+        Err(no) => return no,
+    };
+    let Some(record) = file.records.get(flow as usize) else {
+        return refused(12, 0);
+    };
+    let [xs, ys, xd, yd, ..] = numbers(record);
+    let (dx, dy) = (offset(xs, xd, file.sx), offset(ys, yd, file.sy));
+    (dx + dy + dy * file.sx + 2) as u64
+}
 
-    fn notes(&self, file: &[u8]) -> u64 {
-        read(file).map_or_else(|no| no, |file| file.start as u64)
-    }
+pub fn notes(file: &[u8]) -> u64 {
+    read(file).map_or_else(|no| no, |file| file.start as u64)
 }

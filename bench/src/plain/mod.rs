@@ -2,7 +2,7 @@
 //! table, of U1, U4, U6 and U7, and with U5's periods, on the same memory; safe Rust with no heap.
 
 mod bounds;
-mod engine;
+mod files;
 mod offers;
 mod plan;
 mod recent;
@@ -10,8 +10,13 @@ mod state;
 mod step;
 mod steps;
 
+pub use bounds::{flight, notes, window};
+pub use files::reset;
 pub use plan::numbers;
+use second::lent::{Call, Lent};
+use second::offers::{MOST_TRIAL, MOST_WAITING};
 use second::state::{HEADER, PER_FLOW, PER_REGISTER};
+pub use step::step;
 
 /// The words of an exit.
 pub const EXIT: usize = 5;
@@ -26,8 +31,23 @@ pub fn delivery_words(routers: usize) -> usize {
     EXIT * routers
 }
 
-/// The plain engine.
-pub struct Plain;
+/// What plain Rust answers.
+pub fn plain(lent: &mut Lent) -> u64 {
+    match lent.call {
+        Call::Notes => notes(lent.file),
+        Call::Flight(flow) => flight(lent.file, flow),
+        Call::Window(flow) => window(lent.file, flow).into(),
+        Call::Reset => reset(lent.file, lent.state),
+        Call::Offer(flow) => offers::offer(lent.state, flow, MOST_WAITING as u32, 13),
+        Call::OfferTrial(flow) => offers::offer(lent.state, flow, MOST_TRIAL as u32, 18),
+        Call::OfferSet => offers::offer_set(lent.state, lent.list),
+        Call::Step => step(lent.state, lent.delivery),
+        Call::Steps(cycles) => steps::steps(lent.state, lent.delivery, cycles),
+        Call::StepReasons => step::step_reasons(lent.state, lent.delivery, lent.reasons),
+        Call::Recent(last) => recent::recent(lent.state, lent.deliveries, lent.records, last),
+        Call::Write => files::write(lent.state, lent.notes, lent.target),
+    }
+}
 
 fn refused(number: u64, place: usize) -> u64 {
     number << 32 | place as u64
