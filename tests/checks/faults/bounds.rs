@@ -2,7 +2,8 @@
 
 use super::records;
 use super::simulator::{Fault, OneCall, Slip, in_call, slips};
-use second::lent::{Call, Lent, Part};
+use second::lent::Part::Answer;
+use second::lent::{Call, Lent};
 use second::plan::{Flow, MOST_BYTES, Plan, TRAILER, read};
 use second::slips::refuted;
 use second::window::{Rival, interference, least, rivals, window_call};
@@ -62,34 +63,32 @@ fn wrapped(from: i64, to: i64, size: i64) -> i64 {
 }
 
 const FLIGHTS: &[Slip] = &[
-    ("columns of a difference that wraps", Part::Answer, |lent| {
+    ("columns of a difference that wraps", Answer, |lent| {
         flown(lent, |plan, f| (wrapped(plan.flows[f].xs, plan.flows[f].xd, plan.sx), plan.dy(f)))
     }),
-    ("rows of a difference that wraps", Part::Answer, |lent| {
+    ("rows of a difference that wraps", Answer, |lent| {
         flown(lent, |plan, f| (plan.dx(f), wrapped(plan.flows[f].ys, plan.flows[f].yd, plan.sy)))
     }),
-    ("columns counted round Sy", Part::Answer, |lent| {
+    ("columns counted round Sy", Answer, |lent| {
         flown(lent, |plan, f| {
             let Flow { xs, xd, .. } = plan.flows[f];
             ((xd - xs).rem_euclid(plan.sy), plan.dy(f))
         })
     }),
-    ("rows counted northward", Part::Answer, |lent| {
+    ("rows counted northward", Answer, |lent| {
         flown(lent, |plan, f| {
             let Flow { ys, yd, .. } = plan.flows[f];
             (plan.dx(f), (ys - yd).rem_euclid(plan.sy))
         })
     }),
-    ("Sy charged for a deflection", Part::Answer, |lent| {
+    ("Sy charged for a deflection", Answer, |lent| {
         bound(lent, |plan, f| plan.dx(f) + plan.dy(f) + plan.dy(f) * plan.sy + 2)
     }),
-    ("the last row spared", Part::Answer, |lent| {
+    ("the last row spared", Answer, |lent| {
         bound(lent, |plan, f| plan.dx(f) + plan.dy(f) + (plan.dy(f) - 1).max(0) * plan.sx + 2)
     }),
-    ("counted as exit - entry", Part::Answer, |lent| {
-        flown(lent, |plan, f| (plan.dx(f) - 2, plan.dy(f)))
-    }),
-    ("a flow too many", Part::Answer, |lent| match lent.call {
+    ("counted as exit - entry", Answer, |lent| flown(lent, |plan, f| (plan.dx(f) - 2, plan.dy(f)))),
+    ("a flow too many", Answer, |lent| match lent.call {
         Call::Flight(flow) if lent.number() == 12 => {
             Lent { call: Call::Flight(flow - 1), ..lent.again() }.right()
         }
@@ -98,32 +97,32 @@ const FLIGHTS: &[Slip] = &[
 ];
 
 const WINDOWS: &[Slip] = &[
-    ("the ceiling of t+J", Part::Answer, |lent| {
+    ("the ceiling of t+J", Answer, |lent| {
         shared(lent, |rival, t| rival.burst + (t + rival.spread).div_ceil(rival.period))
     }),
-    ("the floor and one more for the ceiling", Part::Answer, |lent| {
+    ("the floor and one more for the ceiling", Answer, |lent| {
         shared(lent, |rival, t| rival.burst + (t - 1 + rival.spread) / rival.period + 1)
     }),
-    ("no window answered as 65,535", Part::Answer, |lent| lent.but(14, 65_535, |_| true)),
-    ("a search past the last window", Part::Answer, |lent| match lent.call {
+    ("no window answered as 65,535", Answer, |lent| lent.but(14, 65_535, |_| true)),
+    ("a search past the last window", Answer, |lent| match lent.call {
         Call::Window(flow) if lent.number() == 14 => {
             let (plan, _) = read(lent.file).unwrap();
             returned(past_the_last(&plan, flow as usize))
         }
         _ => lent.right(),
     }),
-    ("the last window not found", Part::Answer, |lent| match lent.right() {
+    ("the last window not found", Answer, |lent| match lent.right() {
         65_535 => returned(None),
         answer => answer,
     }),
-    ("14 by rates of the period's low two bytes", Part::Answer, |lent| {
+    ("14 by rates of the period's low two bytes", Answer, |lent| {
         let rate = |rival: &Rival| (1 << 31) / (rival.period % 65_536).max(1) as u64;
         let filled = accepted(lent)
             .is_some_and(|(plan, f)| rivals(&plan, f).iter().map(rate).sum::<u64>() >= 1 << 31);
         if filled { returned(None) } else { lent.right() }
     }),
-    ("a refusal below 65,536", Part::Answer, |lent| lent.right() % 65_536),
-    ("the place for the number", Part::Answer, |lent| match lent.call {
+    ("a refusal below 65,536", Answer, |lent| lent.right() % 65_536),
+    ("the place for the number", Answer, |lent| match lent.call {
         Call::Window(flow) => window_call(lent.file, flow).unwrap_or_else(|no| 65_536 + no.place),
         _ => lent.right(),
     }),
@@ -131,12 +130,12 @@ const WINDOWS: &[Slip] = &[
 
 /// Faults that each of the three may have.
 const READ: &[Slip] = &[
-    ("a byte too many taken", Part::Answer, |lent| {
+    ("a byte too many taken", Answer, |lent| {
         let cut = lent.file.len().saturating_sub(MOST_BYTES).min(1);
         let mut file = lent.file[cut..].to_vec();
         Lent { file: &mut file, ..lent.again() }.right()
     }),
-    ("a start that wraps", Part::Answer, |lent| {
+    ("a start that wraps", Answer, |lent| {
         lent.but(5, 0, |lent| {
             let (body, trailer) = lent.file.split_at(lent.file.len() - TRAILER);
             let start = u32::from_le_bytes(trailer[..4].try_into().unwrap());
@@ -146,7 +145,7 @@ const READ: &[Slip] = &[
     }),
 ];
 
-const NOTES: &[Slip] = &[("notes up to the trailer", Part::Answer, |lent| {
+const NOTES: &[Slip] = &[("notes up to the trailer", Answer, |lent| {
     let end = lent.file.len().saturating_sub(TRAILER) as u64;
     if lent.number() == 0 { end } else { lent.right() }
 })];
@@ -157,10 +156,10 @@ pub fn faults() -> Vec<Fault> {
     for call in [Call::Notes, FLIGHT, WINDOW] {
         faults.extend(slips(call, READ));
     }
-    faults.extend(records::of_call(WINDOW, &[Part::Answer]));
+    faults.extend(records::of_call(WINDOW, &[Answer]));
     for row in refuted() {
         let slip = row.slip;
-        faults.push(in_call(WINDOW, format!("{slip:?}"), &[Part::Answer], move |lent| {
+        faults.push(in_call(WINDOW, format!("{slip:?}"), &[Answer], move |lent| {
             match (lent.call, read(lent.file)) {
                 (Call::Window(flow), Ok((plan, _))) if (flow as usize) < plan.flows.len() => {
                     returned(slip.window(&plan, flow as usize))

@@ -2,7 +2,8 @@
 
 use super::records;
 use super::simulator::{Fault, OneCall, Slip, refused, slips};
-use second::lent::{Call, Lent, Part};
+use second::lent::Part::{Answer, Delivery, File, State, Target};
+use second::lent::{Call, Lent};
 use second::plan::{RECORD, change_records};
 use second::state::{HEADER, PER_FLOW, judge};
 
@@ -37,36 +38,36 @@ fn token_at(lent: &mut Lent, is_over: fn(&[u32]) -> bool) -> u64 {
 
 /// Faults that each form of step may have.
 pub const STEPPED: &[Slip] = &[
-    ("a clock that stands still", Part::State, |lent| {
+    ("a clock that stands still", State, |lent| {
         lent.then(0, |lent| lent.state[3] = lent.state[3].wrapping_sub(1))
     }),
-    ("deliveries one deflection short", Part::Delivery, |lent| {
+    ("deliveries one deflection short", Delivery, |lent| {
         let answer = lent.right();
         if (1..1 << 32).contains(&answer) && lent.delivery[4] > 0 {
             lent.delivery[4] -= 1;
         }
         answer
     }),
-    ("11 where it comes to the last clock", Part::Answer, |lent| match lent.right() {
+    ("11 where it comes to the last clock", Answer, |lent| match lent.right() {
         exits if exits < 1 << 32 && lent.state[3] == u32::MAX => refused(11, 0),
         answer => answer,
     }),
-    ("a counter that rests in a full bucket", Part::State, |lent| {
+    ("a counter that rests in a full bucket", State, |lent| {
         bucket_after(lent, is_full, |bucket| bucket[3] = 0)
     }),
-    ("a token that finds its bucket full, kept", Part::State, |lent| {
+    ("a token that finds its bucket full, kept", State, |lent| {
         bucket_after(lent, is_round, |bucket| bucket[2] += 1)
     }),
-    ("a count that doesn't return where a token is lost", Part::State, |lent| {
+    ("a count that doesn't return where a token is lost", State, |lent| {
         bucket_after(lent, is_round, |bucket| bucket[3] = bucket[0] - 1)
     }),
-    ("a count of two bytes", Part::State, |lent| {
+    ("a count of two bytes", State, |lent| {
         bucket_after(lent, |_| true, |bucket| bucket[3] &= 0xFFFF)
     }),
-    ("a token after the low two bytes of P", Part::State, |lent| {
+    ("a token after the low two bytes of P", State, |lent| {
         token_at(lent, |bucket| bucket[3] > 0 && bucket[3] == bucket[0] & 0xFFFF)
     }),
-    ("a token after 65,535 cycles of a longer period", Part::State, |lent| {
+    ("a token after 65,535 cycles of a longer period", State, |lent| {
         token_at(lent, |bucket| bucket[0] > 65_535 && bucket[3] == 65_535)
     }),
 ];
@@ -86,24 +87,24 @@ fn judged(lent: &mut Lent, change: fn(&mut [u32])) -> u64 {
 
 /// Faults that each call that judges the words of a state may have: a bucket judged as though it were another.
 const JUDGED: &[Slip] = &[
-    ("a period of 2^24 taken", Part::Answer, |lent| {
+    ("a period of 2^24 taken", Answer, |lent| {
         judged(lent, |bucket| bucket[0] -= (bucket[0] == 1 << 24) as u32)
     }),
-    ("a period judged by its low three bytes", Part::Answer, |lent| {
+    ("a period judged by its low three bytes", Answer, |lent| {
         judged(lent, |bucket| bucket[0] &= 0xFF_FFFF)
     }),
-    ("a period judged by its low two bytes", Part::Answer, |lent| {
+    ("a period judged by its low two bytes", Answer, |lent| {
         judged(lent, |bucket| bucket[0] &= 0xFFFF)
     }),
-    ("a period over 65,535 refused", Part::Answer, |lent| {
+    ("a period over 65,535 refused", Answer, |lent| {
         judged(lent, |bucket| bucket[0] *= (bucket[0] <= 65_535) as u32)
     }),
-    ("a count over 65,535 refused", Part::Answer, |lent| {
+    ("a count over 65,535 refused", Answer, |lent| {
         judged(lent, |bucket| bucket[0] *= (bucket[3] <= 65_535) as u32)
     }),
 ];
 
-const OFFERED: &[Slip] = &[("9 for a full bucket with a count", Part::Answer, |lent| {
+const OFFERED: &[Slip] = &[("9 for a full bucket with a count", Answer, |lent| {
     let counts = |bucket: &mut [u32]| is_full(bucket) && bucket[3] > 0;
     let is_barred = lent.number() == 0 && buckets(lent.state).any(counts);
     if is_barred { refused(9, 0) } else { lent.right() }
@@ -120,18 +121,18 @@ fn rewrite(lent: &mut Lent, change: fn(&mut [u8; RECORD])) -> u64 {
 }
 
 const WRITTEN: &[Slip] = &[
-    ("the top byte of P not written", Part::Target, |lent| rewrite(lent, |record| record[7] = 0)),
-    ("P's bytes written in a row", Part::Target, |lent| rewrite(lent, |record| record.swap(6, 7))),
-    ("the top byte of P written for its middle one", Part::Target, |lent| {
+    ("the top byte of P not written", Target, |lent| rewrite(lent, |record| record[7] = 0)),
+    ("P's bytes written in a row", Target, |lent| rewrite(lent, |record| record.swap(6, 7))),
+    ("the top byte of P written for its middle one", Target, |lent| {
         rewrite(lent, |record| record[5] = record[7])
     }),
 ];
 
 pub fn faults() -> Vec<Fault> {
-    let judges = Call::ALL.into_iter().filter(|call| !call.takes().contains(&Part::File));
+    let judges = Call::ALL.into_iter().filter(|call| !call.takes().contains(&File));
     let judged = judges.flat_map(|call| slips(call, JUDGED));
     let stepped = STEPS.into_iter().flat_map(|call| slips(call, STEPPED));
-    let misread = records::of_call(Call::Reset, &[Part::Answer, Part::State]);
+    let misread = records::of_call(Call::Reset, &[Answer, State]);
     let own = slips(Call::Offer(0), OFFERED).chain(slips(Call::Write, WRITTEN));
     judged.chain(stepped).chain(misread).chain(own).collect()
 }

@@ -1,9 +1,10 @@
 //! Faults of many steps in one call, each as a call with that fault in it.
 
 use super::simulator::{OneCall, Slip, refused};
-use second::book::{Book, Bucket, Delivery, PER_DELIVERY};
+use second::book::{self, Book, Bucket, PER_DELIVERY};
 use second::calls;
-use second::lent::{Call, Lent, Part};
+use second::lent::Part::{Answer, Delivery, State};
+use second::lent::{Call, Lent};
 use second::plan::Flow;
 use second::recent::groups;
 
@@ -81,7 +82,7 @@ fn with_room(lent: &mut Lent, room: impl Fn(usize, usize) -> usize) -> u64 {
 }
 
 /// The call, but for this answer where it is accepted, by the exits of each step that has some.
-fn answering(lent: &mut Lent, answer: impl Fn(&[&[Delivery]]) -> usize) -> u64 {
+fn answering(lent: &mut Lent, answer: impl Fn(&[&[book::Delivery]]) -> usize) -> u64 {
     match lent.right() {
         exits if exits < 1 << 32 => {
             let exits = groups(&lent.delivery[..PER_DELIVERY * exits as usize]);
@@ -100,7 +101,7 @@ fn ending(lent: &mut Lent, end: impl Fn(&mut Lent, u64) -> u64) -> u64 {
 }
 
 /// The exits of each step that has some.
-fn by_step(exits: &[Delivery]) -> Vec<&[Delivery]> {
+fn by_step(exits: &[book::Delivery]) -> Vec<&[book::Delivery]> {
     exits.chunk_by(|one, next| one[3] == next[3]).collect()
 }
 
@@ -112,36 +113,34 @@ fn counted(flow: &Flow, bucket: Bucket, cycles: i64) -> Bucket {
 
 pub const FAULTS: &[Slip] = &[
     // Which cycles are idle.
-    ("a leap over a flow that has a token", Part::State, |lent| {
+    ("a leap over a flow that has a token", State, |lent| {
         idle_after(lent, |book| {
             let flows = book.waiting.iter_mut().zip(&book.buckets);
             flows.filter(|(_, bucket)| bucket.tokens > 0).for_each(|(lines, _)| lines.clear());
         })
     }),
-    ("a leap over a token that comes", Part::Answer, |lent| {
+    ("a leap over a token that comes", Answer, |lent| {
         idle_after(lent, |book| {
             let flows = book.waiting.iter_mut().zip(&book.buckets);
             flows.filter(|(_, bucket)| bucket.tokens == 0).for_each(|(lines, _)| lines.clear());
         })
     }),
-    ("a leap that doesn't look at the last flow", Part::Answer, |lent| {
+    ("a leap that doesn't look at the last flow", Answer, |lent| {
         idle_after(lent, |book| book.waiting.last_mut().unwrap().clear())
     }),
-    ("a leap that looks at the last flow alone", Part::Answer, |lent| {
+    ("a leap that looks at the last flow alone", Answer, |lent| {
         idle_after(lent, |book| {
             let (_, others) = book.waiting.split_last_mut().unwrap();
             others.iter_mut().for_each(|lines| lines.clear());
         })
     }),
-    ("a leap over packets in flight", Part::Answer, |lent| {
-        idle_after(lent, |book| book.placed.clear())
-    }),
-    ("a leap over one packet in flight", Part::State, |lent| {
+    ("a leap over packets in flight", Answer, |lent| idle_after(lent, |book| book.placed.clear())),
+    ("a leap over one packet in flight", State, |lent| {
         idle_after(lent, |book| {
             book.placed.pop();
         })
     }),
-    ("a leap one cycle too far", Part::Delivery, |lent| {
+    ("a leap one cycle too far", Delivery, |lent| {
         passing(lent, |book, most| {
             let idle = book.pass_idle(most);
             let further = idle > 0 && idle < most && book.clone().pass_idle(1) == 0;
@@ -150,102 +149,96 @@ pub const FAULTS: &[Slip] = &[
         })
     }),
     // What they come to.
-    ("a lost token kept over a leap", Part::State, |lent| {
+    ("a lost token kept over a leap", State, |lent| {
         counting(lent, |flow, bucket, idle| {
             let tokens = bucket.tokens + (bucket.count + idle) / flow.period;
             Bucket { tokens, ..counted(flow, bucket, bucket.count + idle) }
         })
     }),
-    ("one token at most over a leap", Part::State, |lent| {
+    ("one token at most over a leap", State, |lent| {
         counting(lent, |flow, bucket, idle| {
             let after = counted(flow, bucket, bucket.count + idle);
             Bucket { tokens: after.tokens.min(bucket.tokens + 1), ..after }
         })
     }),
-    ("a count not taken mod P over a leap", Part::State, |lent| {
+    ("a count not taken mod P over a leap", State, |lent| {
         counting(lent, |flow, bucket, idle| {
             let count = bucket.count + idle;
             Bucket { count, ..counted(flow, bucket, count) }
         })
     }),
-    ("a count that rests in a full bucket over a leap", Part::State, |lent| {
+    ("a count that rests in a full bucket over a leap", State, |lent| {
         counting(lent, |flow, bucket, idle| match bucket.tokens == flow.burst {
             true => bucket,
             false => counted(flow, bucket, bucket.count + idle),
         })
     }),
-    ("a count and a leap added in 32 bits", Part::State, |lent| {
+    ("a count and a leap added in 32 bits", State, |lent| {
         counting(lent, |flow, bucket, idle| {
             counted(flow, bucket, (bucket.count + idle) as u32 as i64)
         })
     }),
-    ("a leap of two bytes in the buckets", Part::State, |lent| {
+    ("a leap of two bytes in the buckets", State, |lent| {
         counting(lent, |flow, bucket, idle| counted(flow, bucket, bucket.count + (idle & 0xFFFF)))
     }),
-    ("the clock not advanced over a leap", Part::State, |lent| {
+    ("the clock not advanced over a leap", State, |lent| {
         bent(lent, |book, before, _| book.clock = before.clock)
     }),
-    ("the clock advanced by one over a leap", Part::State, |lent| {
+    ("the clock advanced by one over a leap", State, |lent| {
         bent(lent, |book, before, _| book.clock = before.clock + 1)
     }),
     // How many steps.
-    ("a cycle too many", Part::State, |lent| running(lent, |cycles, _| cycles.saturating_add(1))),
-    ("a cycle too few", Part::State, |lent| running(lent, |cycles, _| cycles.saturating_sub(1))),
-    ("no cycle taken for one", Part::State, |lent| running(lent, |cycles, _| cycles.max(1))),
-    ("one cycle at most", Part::Answer, |lent| running(lent, |cycles, _| cycles.min(1))),
-    ("cycles of one byte", Part::State, |lent| running(lent, |cycles, _| cycles as u8 as u32)),
-    ("cycles of two bytes", Part::State, |lent| running(lent, |cycles, _| cycles as u16 as u32)),
-    ("cycles of three bytes", Part::State, |lent| running(lent, |cycles, _| cycles & 0xFF_FFFF)),
-    ("cycles with a sign", Part::Answer, |lent| {
-        running(lent, |cycles, _| (cycles as i32).max(0) as u32)
-    }),
-    ("an end a cycle before the last clock", Part::State, |lent| {
+    ("a cycle too many", State, |lent| running(lent, |cycles, _| cycles.saturating_add(1))),
+    ("a cycle too few", State, |lent| running(lent, |cycles, _| cycles.saturating_sub(1))),
+    ("no cycle taken for one", State, |lent| running(lent, |cycles, _| cycles.max(1))),
+    ("one cycle at most", Answer, |lent| running(lent, |cycles, _| cycles.min(1))),
+    ("cycles of one byte", State, |lent| running(lent, |cycles, _| cycles as u8 as u32)),
+    ("cycles of two bytes", State, |lent| running(lent, |cycles, _| cycles as u16 as u32)),
+    ("cycles of three bytes", State, |lent| running(lent, |cycles, _| cycles & 0xFF_FFFF)),
+    ("cycles with a sign", Answer, |lent| running(lent, |cycles, _| (cycles as i32).max(0) as u32)),
+    ("an end a cycle before the last clock", State, |lent| {
         running(lent, |cycles, lent| cycles.min(u32::MAX - 1 - lent.state[3]))
     }),
-    ("cycles taken for the clock to come to", Part::State, |lent| {
+    ("cycles taken for the clock to come to", State, |lent| {
         running(lent, |cycles, lent| cycles.saturating_sub(lent.state[3]))
     }),
-    ("the last clock passed", Part::State, |lent| {
+    ("the last clock passed", State, |lent| {
         ending(lent, |lent, answer| {
             lent.state[3] %= u32::MAX;
             answer
         })
     }),
-    ("one step more than the room allows", Part::State, |lent| {
+    ("one step more than the room allows", State, |lent| {
         with_room(lent, |lent, least| lent + least)
     }),
-    ("room judged at the start alone", Part::State, |lent| with_room(lent, |lent, _| lent + 9999)),
-    ("an early end at exactly enough room", Part::Answer, |lent| {
-        with_room(lent, |lent, _| lent - 1)
-    }),
-    ("an early end a delivery too early", Part::Answer, |lent| with_room(lent, |lent, _| lent - 5)),
-    ("an early end without room for two steps", Part::Answer, |lent| {
+    ("room judged at the start alone", State, |lent| with_room(lent, |lent, _| lent + 9999)),
+    ("an early end at exactly enough room", Answer, |lent| with_room(lent, |lent, _| lent - 1)),
+    ("an early end a delivery too early", Answer, |lent| with_room(lent, |lent, _| lent - 5)),
+    ("an early end without room for two steps", Answer, |lent| {
         with_room(lent, |lent, least| lent - least)
     }),
-    ("an end a word too late", Part::Answer, |lent| with_room(lent, |lent, _| lent + 1)),
-    ("refused where it should end early", Part::Answer, |lent| ending(lent, |_, _| refused(10, 0))),
-    ("refused with 11 where it should end early", Part::Answer, |lent| {
+    ("an end a word too late", Answer, |lent| with_room(lent, |lent, _| lent + 1)),
+    ("refused where it should end early", Answer, |lent| ending(lent, |_, _| refused(10, 0))),
+    ("refused with 11 where it should end early", Answer, |lent| {
         ending(lent, |_, _| refused(11, 0))
     }),
-    ("nothing answered where it ends early", Part::Answer, |lent| ending(lent, |_, _| 0)),
-    ("room asked for all cycles at the start", Part::Answer, |lent| {
+    ("nothing answered where it ends early", Answer, |lent| ending(lent, |_, _| 0)),
+    ("room asked for all cycles at the start", Answer, |lent| {
         lent.but(0, refused(10, 0), |lent| {
             lent.delivery.len() < least(lent) * cycles(lent) as usize
         })
     }),
     (
         "nothing judged for no cycle",
-        Part::Answer,
+        Answer,
         |lent| if cycles(lent) == 0 { 0 } else { lent.right() },
     ),
-    ("10 and 11 not judged for no cycle", Part::Answer, |lent| {
-        match (cycles(lent), lent.number()) {
-            (0, 10 | 11) => 0,
-            _ => lent.right(),
-        }
+    ("10 and 11 not judged for no cycle", Answer, |lent| match (cycles(lent), lent.number()) {
+        (0, 10 | 11) => 0,
+        _ => lent.right(),
     }),
     // Deliveries and their count.
-    ("deliveries of a later step over an earlier one's", Part::Delivery, |lent| {
+    ("deliveries of a later step over an earlier one's", Delivery, |lent| {
         let (before, answer) = (lent.delivery.to_vec(), lent.right());
         let exits = if answer < 1 << 32 { PER_DELIVERY * answer as usize } else { 0 };
         let exits = groups(&lent.delivery[..exits]);
@@ -255,17 +248,17 @@ pub const FAULTS: &[Slip] = &[
         }
         answer
     }),
-    ("exits of the last step only answered", Part::Answer, |lent| {
+    ("exits of the last step only answered", Answer, |lent| {
         answering(lent, |steps| steps.last().map_or(0, |step| step.len()))
     }),
-    ("exits of the first step only answered", Part::Answer, |lent| {
+    ("exits of the first step only answered", Answer, |lent| {
         answering(lent, |steps| steps.first().map_or(0, |step| step.len()))
     }),
-    ("the steps with exits counted", Part::Answer, |lent| answering(lent, |steps| steps.len())),
-    ("an answer of one byte", Part::Answer, |lent| {
+    ("the steps with exits counted", Answer, |lent| answering(lent, |steps| steps.len())),
+    ("an answer of one byte", Answer, |lent| {
         answering(lent, |steps| steps.concat().len() as u8 as usize)
     }),
-    ("the steps answered", Part::Answer, |lent| {
+    ("the steps answered", Answer, |lent| {
         let begins = lent.state.get(3).copied().unwrap_or(0);
         match lent.right() {
             exits if exits < 1 << 32 => (lent.state[3] - begins) as u64,

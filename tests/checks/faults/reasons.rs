@@ -34,6 +34,11 @@ fn telling(name: &str, word: impl Fn(&Cycle, usize) -> u32 + 'static) -> Fault {
 /// Every fault in what is told.
 pub fn faults() -> Vec<Fault> {
     let mut faults: Vec<_> = FAULTS.iter().map(|&(name, word)| telling(name, word)).collect();
+    for &(name, told, right, holds) in INSTEAD {
+        faults.push(telling(name, move |cycle, flow| {
+            cycle.but(flow, told, right, holds(cycle, flow))
+        }));
+    }
     for (told, right) in ORDERS {
         faults.push(telling(&format!("{told} before {right}"), move |cycle, flow| {
             cycle.but(flow, told, &[right], cycle.applies(flow, told))
@@ -154,6 +159,64 @@ impl Cycle {
     }
 }
 
+/// A reason that is told in place of these where they are right and this holds.
+const INSTEAD: &[(&str, u32, &[u32], fn(&Cycle, usize) -> bool)] = &[
+    ("1 for the last packet, which entered", 1, &[0], |cycle, flow| cycle.waiting(flow) == 1),
+    ("2 for the last token, which was spent", 2, &[0], |cycle, flow| cycle.tokens(flow) == 1),
+    ("2 for the last token, spent by the last but one packet", 2, &[0], |cycle, flow| {
+        cycle.tokens(flow) == 1 && cycle.waiting(flow) == 2
+    }),
+    ("5 for the flow that entered", 5, &[0], |_, _| true),
+    ("4 for an entry by S", 4, &[0], |cycle, flow| !cycle.is_east(flow)),
+    ("3 for an entry by E", 3, &[0], |cycle, flow| cycle.is_east(flow)),
+    ("0 for a flow that could enter", 0, &[5], |_, _| true),
+    ("1 with one packet waiting", 1, &[2, 3, 4, 5], |cycle, flow| cycle.waiting(flow) == 1),
+    ("1 by the low byte of waiting", 1, &[2, 3, 4, 5], |cycle, flow| {
+        cycle.waiting(flow) as u8 == 0
+    }),
+    ("2 with one token left", 2, &[3, 4, 5], |cycle, flow| cycle.tokens(flow) == 1),
+    ("2 where the count is 0", 2, &[3, 4, 5], |cycle, flow| cycle.before.buckets[flow].count == 0),
+    ("3 for a port S", 3, &[0, 4, 5], |cycle, flow| !cycle.is_east(flow) && cycle.west(flow)),
+    ("3 for a port S where W turns", 3, &[4], |cycle, flow| {
+        !cycle.is_east(flow) && cycle.turns(flow)
+    }),
+    ("3 by N", 3, &[0, 5], |cycle, flow| cycle.is_east(flow) && cycle.north(flow)),
+    ("3 by the entry of a lower flow", 3, &[5], |cycle, flow| cycle.is_east(flow)),
+    ("3 not by a packet that turns", 5, &[3], |cycle, flow| cycle.turns(flow)),
+    ("3 not by a packet that goes on", 5, &[3], |cycle, flow| !cycle.turns(flow)),
+    ("0 for a port E where W turns", 0, &[3], |cycle, flow| cycle.turns(flow)),
+    ("4 for a port E where W turns", 4, &[3], |cycle, flow| cycle.turns(flow)),
+    ("4 for a port E where N goes S", 4, &[0, 5], |cycle, flow| {
+        cycle.is_east(flow) && cycle.north(flow)
+    }),
+    ("4 not by W", 5, &[4], |cycle, flow| cycle.turns(flow) && !cycle.north(flow)),
+    ("4 not by N", 5, &[4], |cycle, flow| !cycle.turns(flow)),
+    ("4 not where N is deflected", 5, &[4], |cycle, flow| cycle.turns(flow) && cycle.north(flow)),
+    ("4 not by an exit", 5, &[4], |cycle, flow| cycle.exits(flow)),
+    ("4 not by an exit from W", 5, &[4], |cycle, flow| cycle.turns(flow) && cycle.exits(flow)),
+    ("4 not by an exit from N", 5, &[4], |cycle, flow| !cycle.turns(flow) && cycle.exits(flow)),
+    ("0 for an exit from N", 0, &[4], |cycle, flow| !cycle.turns(flow) && cycle.exits(flow)),
+    ("4 by an exit alone", 5, &[4], |cycle, flow| !cycle.exits(flow)),
+    ("4 not for a flow to its own client", 5, &[4], |cycle, flow| cycle.before.plan.dy(flow) == 0),
+    ("4 by a W packet that doesn't turn", 4, &[0, 5], |cycle, flow| {
+        !cycle.is_east(flow) && cycle.west(flow)
+    }),
+    ("4 by the entry of a lower flow", 4, &[5], |cycle, flow| !cycle.is_east(flow)),
+    ("5 by a flow of another client", 5, &[1, 2, 3, 4], |cycle, flow| {
+        cycle.lower_elsewhere(flow, |_, _| true)
+    }),
+    ("5 by a flow of the same column", 5, &[3, 4], |cycle, flow| {
+        cycle.lower_elsewhere(flow, |a, b| a.column == b.column)
+    }),
+    ("5 by a flow of the same row", 5, &[3, 4], |cycle, flow| {
+        cycle.lower_elsewhere(flow, |a, b| a.row == b.row)
+    }),
+    ("5 by the client's first flow alone", 0, &[5], |cycle, flow| {
+        cycle.entered(flow) != cycle.of_client(flow).next()
+    }),
+    ("6 for a lower flow's entry", 6, &[5], |_, _| true),
+];
+
 /// What is told to a flow in a cycle.
 const FAULTS: &[(&str, fn(&Cycle, usize) -> u32)] = &[
     ("reasons from 1", |cycle, flow| cycle.right[flow] + 1),
@@ -174,32 +237,10 @@ const FAULTS: &[(&str, fn(&Cycle, usize) -> u32)] = &[
         let after = cycle.after.clone().step_reasons(usize::MAX, cycle.lent.len());
         after.map_or(cycle.right[flow], |(_, told)| told[flow])
     }),
-    ("1 for the last packet, which entered", |cycle, flow| {
-        cycle.but(flow, 1, &[0], cycle.waiting(flow) == 1)
-    }),
-    ("2 for the last token, which was spent", |cycle, flow| {
-        cycle.but(flow, 2, &[0], cycle.tokens(flow) == 1)
-    }),
-    ("2 for the last token, spent by the last but one packet", |cycle, flow| {
-        cycle.but(flow, 2, &[0], cycle.tokens(flow) == 1 && cycle.waiting(flow) == 2)
-    }),
-    ("5 for the flow that entered", |cycle, flow| cycle.but(flow, 5, &[0], true)),
-    ("4 for an entry by S", |cycle, flow| cycle.but(flow, 4, &[0], !cycle.is_east(flow))),
-    ("3 for an entry by E", |cycle, flow| cycle.but(flow, 3, &[0], cycle.is_east(flow))),
     ("1 for an entry that leaves at once", |cycle, flow| {
         let flow_of = &cycle.before.plan.flows[flow];
         let own = (flow_of.xs, flow_of.ys) == (flow_of.xd, flow_of.yd);
         cycle.but(flow, 1, &[0], own)
-    }),
-    ("0 for a flow that could enter", |cycle, flow| cycle.but(flow, 0, &[5], true)),
-    ("1 with one packet waiting", |cycle, flow| {
-        cycle.but(flow, 1, &[2, 3, 4, 5], cycle.waiting(flow) == 1)
-    }),
-    ("1 by the low byte of waiting", |cycle, flow| {
-        cycle.but(flow, 1, &[2, 3, 4, 5], cycle.waiting(flow) as u8 == 0)
-    }),
-    ("2 with one token left", |cycle, flow| {
-        cycle.but(flow, 2, &[3, 4, 5], cycle.tokens(flow) == 1)
     }),
     ("2 where the bucket isn't full", |cycle, flow| {
         let full = cycle.before.plan.flows[flow].burst;
@@ -208,24 +249,6 @@ const FAULTS: &[(&str, fn(&Cycle, usize) -> u32)] = &[
     ("2 by the tokens after the cycle's count", |cycle, flow| {
         let next = (3..6).find(|&reason| cycle.applies(flow, reason));
         cycle.but(flow, next.unwrap_or(0), &[2], cycle.refills(flow))
-    }),
-    ("2 where the count is 0", |cycle, flow| {
-        cycle.but(flow, 2, &[3, 4, 5], cycle.before.buckets[flow].count == 0)
-    }),
-    ("3 for a port S", |cycle, flow| {
-        cycle.but(flow, 3, &[0, 4, 5], !cycle.is_east(flow) && cycle.west(flow))
-    }),
-    ("3 for a port S where W turns", |cycle, flow| {
-        cycle.but(flow, 3, &[4], !cycle.is_east(flow) && cycle.turns(flow))
-    }),
-    ("3 by N", |cycle, flow| cycle.but(flow, 3, &[0, 5], cycle.is_east(flow) && cycle.north(flow))),
-    ("3 by the entry of a lower flow", |cycle, flow| cycle.but(flow, 3, &[5], cycle.is_east(flow))),
-    ("3 not by a packet that turns", |cycle, flow| cycle.but(flow, 5, &[3], cycle.turns(flow))),
-    ("3 not by a packet that goes on", |cycle, flow| cycle.but(flow, 5, &[3], !cycle.turns(flow))),
-    ("0 for a port E where W turns", |cycle, flow| cycle.but(flow, 0, &[3], cycle.turns(flow))),
-    ("4 for a port E where W turns", |cycle, flow| cycle.but(flow, 4, &[3], cycle.turns(flow))),
-    ("4 for a port E where N goes S", |cycle, flow| {
-        cycle.but(flow, 4, &[0, 5], cycle.is_east(flow) && cycle.north(flow))
     }),
     ("3 and 4 for each other", |cycle, flow| match cycle.right[flow] {
         3 => 4,
@@ -236,43 +259,9 @@ const FAULTS: &[(&str, fn(&Cycle, usize) -> u32)] = &[
         let told = if cycle.before.plan.dy(flow) > 0 { 4 } else { 3 };
         cycle.but(flow, told, &[3, 4], true)
     }),
-    ("4 not by W", |cycle, flow| cycle.but(flow, 5, &[4], cycle.turns(flow) && !cycle.north(flow))),
-    ("4 not by N", |cycle, flow| cycle.but(flow, 5, &[4], !cycle.turns(flow))),
-    ("4 not where N is deflected", |cycle, flow| {
-        cycle.but(flow, 5, &[4], cycle.turns(flow) && cycle.north(flow))
-    }),
-    ("4 not by an exit", |cycle, flow| cycle.but(flow, 5, &[4], cycle.exits(flow))),
-    ("4 not by an exit from W", |cycle, flow| {
-        cycle.but(flow, 5, &[4], cycle.turns(flow) && cycle.exits(flow))
-    }),
-    ("4 not by an exit from N", |cycle, flow| {
-        cycle.but(flow, 5, &[4], !cycle.turns(flow) && cycle.exits(flow))
-    }),
-    ("0 for an exit from N", |cycle, flow| {
-        cycle.but(flow, 0, &[4], !cycle.turns(flow) && cycle.exits(flow))
-    }),
-    ("4 by an exit alone", |cycle, flow| cycle.but(flow, 5, &[4], !cycle.exits(flow))),
-    ("4 not for a flow to its own client", |cycle, flow| {
-        cycle.but(flow, 5, &[4], cycle.before.plan.dy(flow) == 0)
-    }),
-    ("4 by a W packet that doesn't turn", |cycle, flow| {
-        cycle.but(flow, 4, &[0, 5], !cycle.is_east(flow) && cycle.west(flow))
-    }),
-    ("4 by the entry of a lower flow", |cycle, flow| {
-        cycle.but(flow, 4, &[5], !cycle.is_east(flow))
-    }),
     ("4 by the entry of a lower flow by S", |cycle, flow| {
         let by_south = cycle.entered(flow).is_some_and(|lower| !cycle.is_east(lower));
         cycle.but(flow, 4, &[5], by_south && !cycle.is_east(flow))
-    }),
-    ("5 by a flow of another client", |cycle, flow| {
-        cycle.but(flow, 5, &[1, 2, 3, 4], cycle.lower_elsewhere(flow, |_, _| true))
-    }),
-    ("5 by a flow of the same column", |cycle, flow| {
-        cycle.but(flow, 5, &[3, 4], cycle.lower_elsewhere(flow, |a, b| a.column == b.column))
-    }),
-    ("5 by a flow of the same row", |cycle, flow| {
-        cycle.but(flow, 5, &[3, 4], cycle.lower_elsewhere(flow, |a, b| a.row == b.row))
     }),
     ("5 by a higher-numbered flow", |cycle, flow| {
         let higher = cycle.entered(flow).is_some_and(|other| other > flow);
@@ -290,10 +279,6 @@ const FAULTS: &[(&str, fn(&Cycle, usize) -> u32)] = &[
         let same_port = cycle.entered(flow).is_some_and(|l| cycle.port(l) == cycle.port(flow));
         cycle.but(flow, 0, &[5], same_port)
     }),
-    ("5 by the client's first flow alone", |cycle, flow| {
-        cycle.but(flow, 0, &[5], cycle.entered(flow) != cycle.of_client(flow).next())
-    }),
-    ("6 for a lower flow's entry", |cycle, flow| cycle.but(flow, 6, &[5], true)),
     ("an entered flow's word left", |cycle, flow| cycle.but(flow, cycle.lent[flow], &[0], true)),
     ("the word of a flow without packets left", |cycle, flow| {
         cycle.but(flow, cycle.lent[flow], &[1], true)

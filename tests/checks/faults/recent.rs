@@ -1,7 +1,8 @@
 //! Faults of recent flights, each as a call with that fault in it.
 
 use super::simulator::{OneCall, Slip, refused};
-use second::lent::{Call, Lent, Part};
+use second::lent::Part::{Answer, Records};
+use second::lent::{Call, Lent};
 use second::plan::Plan;
 use second::recent::{Kept, Record, feed, flight, groups, held, holding, is_of_plan};
 use second::state::judge;
@@ -102,52 +103,52 @@ fn offsets(plan: &Plan, group: [u32; 5]) -> i64 {
 }
 
 pub const FAULTS: &[Slip] = &[
-    ("the newest dropped, not the oldest", Part::Records, |lent| {
+    ("the newest dropped, not the oldest", Records, |lent| {
         kept_by(lent, |record, kept, last| match held(record, last).len() == last {
             true => *record = holding(&held(record, last)),
             false => keep(record, kept, last),
         })
     }),
-    ("zeros not put behind", Part::Records, |lent| {
+    ("zeros not put behind", Records, |lent| {
         kept_and(lent, |record, old, _, _| put_back(record, old, record.held as usize..16))
     }),
-    ("zeros up to L alone", Part::Records, |lent| {
+    ("zeros up to L alone", Records, |lent| {
         kept_and(lent, |record, old, _, last| put_back(record, old, last..16))
     }),
-    ("a maximum that stays when its flight has gone", Part::Records, |lent| {
+    ("a maximum that stays when its flight has gone", Records, |lent| {
         kept_and(lent, |record, old, _, last| {
             if *old == holding(&held(old, last)) {
                 record.longest = record.longest.max(old.longest);
             }
         })
     }),
-    ("a maximum of deflections that stays when its packet has gone", Part::Records, |lent| {
+    ("a maximum of deflections that stays when its packet has gone", Records, |lent| {
         kept_and(lent, |record, old, _, last| {
             if *old == holding(&held(old, last)) {
                 record.most = record.most.max(old.most);
             }
         })
     }),
-    ("a caller's maximum believed", Part::Records, |lent| {
+    ("a caller's maximum believed", Records, |lent| {
         kept_and(lent, |record, old, kept, last| {
             if held(old, last).len() < last && old.held > 0 && old.held as usize <= last {
                 record.longest = old.longest.max(kept.0);
             }
         })
     }),
-    ("a record that says more than L kept", Part::Records, |lent| {
+    ("a record that says more than L kept", Records, |lent| {
         kept_by(lent, |record, kept, last| {
             record.held = record.held.min(last as u32);
             keep(record, kept, last);
         })
     }),
-    ("a record that says L taken as empty", Part::Records, |lent| {
+    ("a record that says L taken as empty", Records, |lent| {
         kept_by(lent, |record, kept, last| {
             record.held = if record.held as usize == last { 0 } else { record.held };
             keep(record, kept, last);
         })
     }),
-    ("a record that says more than L emptied without a delivery", Part::Records, |lent| {
+    ("a record that says more than L emptied without a delivery", Records, |lent| {
         if lent.answer() == 0 {
             let (last, flows) = (last(lent), flows(lent));
             let records = lent.records[..flows].iter_mut().filter(|record| record.held > last);
@@ -155,13 +156,13 @@ pub const FAULTS: &[Slip] = &[
         }
         lent.right()
     }),
-    ("a flight without its 2", Part::Records, |lent| {
+    ("a flight without its 2", Records, |lent| {
         kept_by(lent, |record, (flight, d), last| keep(record, (flight - 2, d), last))
     }),
-    ("flight and deflections exchanged", Part::Records, |lent| {
+    ("flight and deflections exchanged", Records, |lent| {
         kept_by(lent, |record, (flight, d), last| keep(record, (d, flight), last))
     }),
-    ("groups fed before a later one is refused", Part::Records, |lent| {
+    ("groups fed before a later one is refused", Records, |lent| {
         lent.then(12, |lent| {
             let plan = judge(lent.state).unwrap().plan;
             let mut good = true;
@@ -171,7 +172,7 @@ pub const FAULTS: &[Slip] = &[
             });
         })
     }),
-    ("a wrong delivery passed over", Part::Answer, |lent| {
+    ("a wrong delivery passed over", Answer, |lent| {
         if lent.number() != 12 {
             return lent.right();
         }
@@ -179,60 +180,60 @@ pub const FAULTS: &[Slip] = &[
         feed_all(lent, |&group| is_of_plan(&plan, group));
         0
     }),
-    ("the last group fed first", Part::Records, |lent| {
+    ("the last group fed first", Records, |lent| {
         let deliveries = groups(lent.deliveries).into_iter().rev().flatten().collect();
         reading(lent, deliveries)
     }),
-    ("only the first L groups read", Part::Answer, |lent| {
+    ("only the first L groups read", Answer, |lent| {
         let groups = if has_good_l(lent) { last(lent) as usize } else { lent.deliveries.len() };
         let most = lent.deliveries.len().min(5 * groups);
         reading(lent, lent.deliveries[..most].to_vec())
     }),
-    ("a broken last group read", Part::Answer, |lent| {
+    ("a broken last group read", Answer, |lent| {
         let mut deliveries = lent.deliveries.to_vec();
         deliveries.resize(deliveries.len().next_multiple_of(5), 0);
         reading(lent, deliveries)
     }),
-    ("a last group that isn't broken left out", Part::Records, |lent| {
+    ("a last group that isn't broken left out", Records, |lent| {
         let most = lent.deliveries.len().saturating_sub(1);
         reading(lent, lent.deliveries[..most].to_vec())
     }),
-    ("D compared with ΔX", Part::Answer, |lent| {
+    ("D compared with ΔX", Answer, |lent| {
         judged_by(lent, |plan, group| {
             let (dx, d) = (plan.dx(group[0] as usize), group[4] as i64);
             d <= dx && flight(group) == offsets(plan, group) + d * plan.sx + 2
         })
     }),
-    ("D not compared", Part::Answer, |lent| {
+    ("D not compared", Answer, |lent| {
         judged_by(lent, |plan, group| {
             flight(group) == offsets(plan, group) + group[4] as i64 * plan.sx + 2
         })
     }),
-    ("Sy charged for a deflection", Part::Answer, |lent| {
+    ("Sy charged for a deflection", Answer, |lent| {
         flight_by(lent, |plan, group, d| flight(group) == offsets(plan, group) + d * plan.sy + 2)
     }),
-    ("a flight that is too short taken", Part::Answer, |lent| {
+    ("a flight that is too short taken", Answer, |lent| {
         flight_by(lent, |plan, group, d| flight(group) <= offsets(plan, group) + d * plan.sx + 2)
     }),
-    ("flight by wrapping 32-bit numbers", Part::Answer, |lent| {
+    ("flight by wrapping 32-bit numbers", Answer, |lent| {
         flight_by(lent, |plan, group, d| {
             let flight = group[3].wrapping_sub(group[2]).wrapping_add(2) as i64;
             flight == offsets(plan, group) + d * plan.sx + 2
         })
     }),
-    ("an exit after the clock refused", Part::Answer, |lent| {
+    ("an exit after the clock refused", Answer, |lent| {
         let clock = lent.state.get(3).copied().unwrap_or(0);
         judged_by(lent, |plan, group| is_of_plan(plan, group) && group[3] < clock)
     }),
-    ("serial 0 refused", Part::Answer, |lent| {
+    ("serial 0 refused", Answer, |lent| {
         judged_by(lent, |plan, group| is_of_plan(plan, group) && group[1] > 0)
     }),
-    ("L 17 taken as 16", Part::Answer, |lent| taking(lent, 17, 16)),
-    ("L 0 taken as 16", Part::Answer, |lent| taking(lent, 0, 16)),
-    ("more records than flows refused", Part::Answer, |lent| {
+    ("L 17 taken as 16", Answer, |lent| taking(lent, 17, 16)),
+    ("L 0 taken as 16", Answer, |lent| taking(lent, 0, 16)),
+    ("more records than flows refused", Answer, |lent| {
         lent.but(0, refused(16, 0), |lent| lent.records.len() > flows(lent))
     }),
-    ("nothing checked without a delivery", Part::Answer, |lent| {
+    ("nothing checked without a delivery", Answer, |lent| {
         if lent.deliveries.len() < 5 { 0 } else { lent.right() }
     }),
 ];

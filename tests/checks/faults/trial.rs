@@ -2,7 +2,8 @@
 //! in the sonar's offers.
 
 use super::simulator::{Fault, OneCall, Slip, in_call, refused, slips};
-use second::lent::{Call, Lent, Part};
+use second::lent::Part::{Answer, State};
+use second::lent::{Call, Lent};
 use second::state::{HEADER, PER_FLOW, judge, waiting_at};
 use std::cell::Cell;
 
@@ -77,92 +78,86 @@ fn judged(lent: &mut Lent, change: impl Fn(&mut [u32])) -> u64 {
 }
 
 const FAULTS: &[Slip] = &[
-    ("it stops at 256", Part::Answer, |lent| full_by(lent, |lent| waiting(lent) >= 256)),
-    ("255 alone refused", Part::Answer, |lent| full_by(lent, |lent| waiting(lent) == 255)),
-    ("a low byte of 255 refused", Part::Answer, |lent| {
-        full_by(lent, |lent| waiting(lent) as u8 == 255)
-    }),
-    ("18 at 65,535 alone", Part::Answer, |lent| full_by(lent, |lent| waiting(lent) == 65_535)),
-    ("18 never", Part::Answer, |lent| full_by(lent, |_| false)),
-    ("the sonar's offer", Part::Answer, |lent| {
+    ("it stops at 256", Answer, |lent| full_by(lent, |lent| waiting(lent) >= 256)),
+    ("255 alone refused", Answer, |lent| full_by(lent, |lent| waiting(lent) == 255)),
+    ("a low byte of 255 refused", Answer, |lent| full_by(lent, |lent| waiting(lent) as u8 == 255)),
+    ("18 at 65,535 alone", Answer, |lent| full_by(lent, |lent| waiting(lent) == 65_535)),
+    ("18 never", Answer, |lent| full_by(lent, |_| false)),
+    ("the sonar's offer", Answer, |lent| {
         Lent { call: Call::Offer(flow(lent)), ..lent.again() }.right()
     }),
-    ("13 for 18", Part::Answer, |lent| lent.but(18, refused(13, 0), |_| true)),
-    ("13 at 65,535", Part::Answer, |lent| {
-        lent.but(18, refused(13, 0), |lent| waiting(lent) == 65_535)
-    }),
-    ("the limit for the place", Part::Answer, |lent| placed(lent, 18, |_| 255)),
-    ("the flow for the place of 18", Part::Answer, |lent| placed(lent, 18, flow)),
-    ("the flow for the place of 12", Part::Answer, |lent| placed(lent, 12, flow)),
-    ("the waiting packets for the place", Part::Answer, |lent| placed(lent, 18, waiting)),
-    ("nothing added", Part::State, |lent| lent.then(0, |lent| words(lent)[9] -= 1)),
-    ("two added", Part::State, |lent| lent.then(0, |lent| words(lent)[9] += 1)),
-    ("waiting set to 1", Part::State, |lent| lent.then(0, |lent| words(lent)[9] = 1)),
-    ("waiting set to the limit", Part::State, |lent| lent.then(0, |lent| words(lent)[9] = 255)),
-    ("entered raised too", Part::State, |lent| lent.then(0, |lent| words(lent)[8] += 1)),
-    ("a token given", Part::State, |lent| lent.then(0, |lent| words(lent)[6] += 1)),
-    ("a cycle passed", Part::State, |lent| {
+    ("13 for 18", Answer, |lent| lent.but(18, refused(13, 0), |_| true)),
+    ("13 at 65,535", Answer, |lent| lent.but(18, refused(13, 0), |lent| waiting(lent) == 65_535)),
+    ("the limit for the place", Answer, |lent| placed(lent, 18, |_| 255)),
+    ("the flow for the place of 18", Answer, |lent| placed(lent, 18, flow)),
+    ("the flow for the place of 12", Answer, |lent| placed(lent, 12, flow)),
+    ("the waiting packets for the place", Answer, |lent| placed(lent, 18, waiting)),
+    ("nothing added", State, |lent| lent.then(0, |lent| words(lent)[9] -= 1)),
+    ("two added", State, |lent| lent.then(0, |lent| words(lent)[9] += 1)),
+    ("waiting set to 1", State, |lent| lent.then(0, |lent| words(lent)[9] = 1)),
+    ("waiting set to the limit", State, |lent| lent.then(0, |lent| words(lent)[9] = 255)),
+    ("entered raised too", State, |lent| lent.then(0, |lent| words(lent)[8] += 1)),
+    ("a token given", State, |lent| lent.then(0, |lent| words(lent)[6] += 1)),
+    ("a cycle passed", State, |lent| {
         lent.then(0, |lent| lent.state[3] = lent.state[3].wrapping_add(1))
     }),
-    ("added to flow 0", Part::State, |lent| {
+    ("added to flow 0", State, |lent| {
         lent.then(0, |lent| {
             words(lent)[9] -= 1;
             lent.state[waiting_at(0)] += 1;
         })
     }),
-    ("added where 18 is due", Part::State, |lent| lent.then(18, |lent| words(lent)[9] += 1)),
-    ("packets over the limit dropped", Part::State, |lent| {
-        lent.then(18, |lent| words(lent)[9] = 255)
-    }),
-    ("added to flow 0 where 12 is due", Part::State, |lent| {
+    ("added where 18 is due", State, |lent| lent.then(18, |lent| words(lent)[9] += 1)),
+    ("packets over the limit dropped", State, |lent| lent.then(18, |lent| words(lent)[9] = 255)),
+    ("added to flow 0 where 12 is due", State, |lent| {
         lent.then(12, |lent| lent.state[waiting_at(0)] += 1)
     }),
-    ("18 before 12 where a queue is full", Part::Answer, |lent| {
+    ("18 before 12 where a queue is full", Answer, |lent| {
         lent.but(12, refused(18, 0), |lent| queues(lent).any(|waiting| waiting >= 255))
     }),
-    ("18 before 12 by a flow's low byte", Part::Answer, |lent| {
+    ("18 before 12 by a flow's low byte", Answer, |lent| {
         lent.but(12, refused(18, 0), |lent| waiting_of(lent, flow(lent) % 256) >= 255)
     }),
-    ("waiting not judged", Part::Answer, |lent| {
+    ("waiting not judged", Answer, |lent| {
         judged(lent, |words| {
             let queues = words.get_mut(HEADER..).unwrap_or_default().chunks_exact_mut(PER_FLOW);
             queues.for_each(|flow| flow[9] = flow[9].min(65_535));
         })
     }),
-    ("the last register not judged", Part::Answer, |lent| {
+    ("the last register not judged", Answer, |lent| {
         judged(lent, |words| words.iter_mut().rev().take(4).for_each(|word| *word = 0))
     }),
-    ("entered packets counted", Part::Answer, |lent| full_by(lent, |lent| entered(lent) >= 255)),
-    ("all packets since reset counted", Part::Answer, |lent| {
+    ("entered packets counted", Answer, |lent| full_by(lent, |lent| entered(lent) >= 255)),
+    ("all packets since reset counted", Answer, |lent| {
         full_by(lent, |lent| entered(lent).saturating_add(waiting(lent)) >= 255)
     }),
-    ("packets on their way counted", Part::Answer, |lent| {
+    ("packets on their way counted", Answer, |lent| {
         full_by(lent, |lent| {
             let book = judge(lent.state).unwrap();
             let of_flow = |&&line: &&usize| book.lines[line].flow == flow(lent) as usize;
             waiting(lent) as usize + book.placed.iter().filter(of_flow).count() >= 255
         })
     }),
-    ("the queues of all flows counted", Part::Answer, |lent| {
+    ("the queues of all flows counted", Answer, |lent| {
         full_by(lent, |lent| queues(lent).sum::<u32>() >= 255)
     }),
-    ("any flow's full queue", Part::Answer, |lent| {
+    ("any flow's full queue", Answer, |lent| {
         full_by(lent, |lent| queues(lent).any(|waiting| waiting >= 255))
     }),
-    ("the next flow's queue", Part::Answer, |lent| {
+    ("the next flow's queue", Answer, |lent| {
         full_by(lent, |lent| waiting_of(lent, (flow(lent) + 1) % count(lent)) >= 255)
     }),
-    ("flow 0's queue", Part::Answer, |lent| full_by(lent, |lent| waiting_of(lent, 0) >= 255)),
-    ("flow F taken for the last", Part::Answer, |lent| {
+    ("flow 0's queue", Answer, |lent| full_by(lent, |lent| waiting_of(lent, 0) >= 255)),
+    ("flow F taken for the last", Answer, |lent| {
         let is_next = lent.number() == 12 && flow(lent) == count(lent);
         naming(lent, flow(lent) - is_next as u32)
     }),
-    ("a flow of 8 bits", Part::Answer, |lent| naming(lent, flow(lent) as u8 as u32)),
-    ("a flow of 16 bits", Part::Answer, |lent| naming(lent, flow(lent) as u16 as u32)),
-    ("refused without a token", Part::Answer, |lent| {
+    ("a flow of 8 bits", Answer, |lent| naming(lent, flow(lent) as u8 as u32)),
+    ("a flow of 16 bits", Answer, |lent| naming(lent, flow(lent) as u16 as u32)),
+    ("refused without a token", Answer, |lent| {
         lent.but(0, refused(18, 0), |lent| lent.state[waiting_at(flow(lent) as usize) - 3] == 0)
     }),
-    ("refused in the last cycle", Part::Answer, |lent| {
+    ("refused in the last cycle", Answer, |lent| {
         lent.but(0, refused(11, 0), |lent| lent.state[3] == u32::MAX)
     }),
 ];
@@ -171,7 +166,7 @@ const FAULTS: &[Slip] = &[
 fn own_counted() -> Fault {
     let own = Cell::new(0);
     let mut fault =
-        in_call(Call::OfferTrial(0), "its own packets counted", &[Part::Answer], move |lent| {
+        in_call(Call::OfferTrial(0), "its own packets counted", &[Answer], move |lent| {
             if lent.call == Call::Reset {
                 own.set(0);
             }
@@ -202,11 +197,11 @@ pub fn faults() -> Vec<Fault> {
     faults.push(own_counted());
     for number in [13, 18] {
         let name = format!("stopped at 255 with {number}");
-        faults.push(in_call(Call::Offer(0), &name, &[Part::Answer], move |lent| match lent.call {
+        faults.push(in_call(Call::Offer(0), &name, &[Answer], move |lent| match lent.call {
             Call::Offer(flow) => stopped(lent, &[flow], number),
             _ => lent.right(),
         }));
-        faults.push(in_call(Call::OfferSet, &name, &[Part::Answer], move |lent| {
+        faults.push(in_call(Call::OfferSet, &name, &[Answer], move |lent| {
             let list = lent.list.to_vec();
             stopped(lent, &list, number)
         }));
