@@ -142,85 +142,50 @@ impl Routine {
 
     /// The call with this fault.
     fn answer(self, row: &Row, lent: &mut Lent) -> u64 {
+        let no = |at: usize| &row.refusals[at];
         let tells = |lent: &Lent, at: usize| {
-            let no = &row.refusals[at];
-            lent.call.returned(refuse(no.number, (no.place)(lent)))
+            lent.call.returned(refuse(no(at).number, (no(at).place)(lent)))
         };
-        // The refusal that is due, if it is this one.
-        let is_due = |lent: &Lent, answer: u64, at: usize| {
-            let first = row.first_due(lent).is_none_or(|first| first == at);
-            row.refusals[at].number == lent.call.number(answer) && first
+        let is_at_limit = |lent: &Lent, at: usize| {
+            let earlier = row.refusals[..at].iter().any(|no| no.is_due(lent));
+            no(at).margin(lent) == Some(0) && !earlier
         };
-        let margin = |lent: &Lent, at: usize| row.refusals[at].margin(lent);
         match self {
-            Number(at, other) => {
-                let answer = lent.right();
-                match other {
-                    _ if !is_due(lent, answer, at) => answer,
-                    0 => 0,
-                    _ => lent.call.returned(refuse(other, answer as u32 as usize)),
-                }
-            }
-            Further(at) => {
-                let answer = lent.right();
-                answer + is_due(lent, answer, at) as u64
-            }
-            NoPlace(at) => {
-                let answer = lent.right();
-                if is_due(lent, answer, at) { answer >> 32 << 32 } else { answer }
-            }
-            Before(first, later) => {
-                let answer = lent.right();
-                let both = is_due(lent, answer, first) && row.refusals[later].is_due(lent);
-                if both { tells(lent, later) } else { answer }
-            }
-            Early(at) => {
-                let earlier = |lent: &Lent| row.refusals[..at].iter().any(|no| no.is_due(lent));
-                if margin(lent, at) == Some(0) && !earlier(lent) {
-                    tells(lent, at)
-                } else {
-                    lent.right()
-                }
-            }
-            Late(at) => {
-                let answer = lent.right();
-                let just = is_due(lent, answer, at) && margin(lent, at) == Some(-1);
-                if just { 0 } else { answer }
-            }
-            Done(at) => done(row, at, lent),
-            Touched(at, part, touch) => {
-                let answer = lent.right();
-                if is_due(lent, answer, at) {
-                    touch.change(lent, part);
-                }
-                answer
-            }
-            Changed(part, touch) => lent.then(0, |lent| touch.change(lent, part)),
-            Past(at) => {
-                let (part, end) = (row.writes[at].part, row.writes[at].end);
-                let answer = lent.right();
-                if lent.call.number(answer) == 0 {
-                    let end = end(lent, answer);
-                    flip(lent, part, end);
-                }
-                answer
-            }
-            Left(at) => {
-                let (part, end) = (row.writes[at].part, row.writes[at].end);
-                let before = lent.copied();
-                let answer = lent.right();
-                if lent.call.number(answer) == 0
-                    && let Some(last) = end(lent, answer).checked_sub(1)
-                {
-                    with_memory!(part, memory in &mut lent, old in &before => memory[last] = old[last]);
-                }
-                answer
-            }
-            More => {
-                let answer = lent.right();
-                answer + (lent.call.number(answer) == 0) as u64
-            }
+            Early(at) if is_at_limit(lent, at) => return tells(lent, at),
+            Done(at) => return done(row, at, lent),
+            _ => {}
         }
+        let before = lent.copied();
+        let answer = lent.right();
+        let is_accepted = lent.call.number(answer) == 0;
+        let is_due = |lent: &Lent, at: usize| {
+            let first = row.first_due(lent).is_none_or(|first| first == at);
+            no(at).number == lent.call.number(answer) && first
+        };
+        match self {
+            Number(at, 0) if is_due(lent, at) => return 0,
+            Number(at, other) if is_due(lent, at) => {
+                return lent.call.returned(refuse(other, answer as u32 as usize));
+            }
+            Further(at) if is_due(lent, at) => return answer + 1,
+            NoPlace(at) if is_due(lent, at) => return answer >> 32 << 32,
+            Before(first, later) if is_due(lent, first) && no(later).is_due(lent) => {
+                return tells(lent, later);
+            }
+            Late(at) if is_due(lent, at) && no(at).margin(lent) == Some(-1) => return 0,
+            Touched(at, part, touch) if is_due(lent, at) => touch.change(lent, part),
+            Changed(part, touch) if is_accepted => touch.change(lent, part),
+            Past(at) if is_accepted => flip(lent, row.writes[at].part, row.end(at, lent, answer)),
+            Left(at) if is_accepted && row.end(at, lent, answer) > 0 => {
+                let last = row.end(at, lent, answer) - 1;
+                with_memory!(row.writes[at].part, memory in &mut lent, old in &before => {
+                    memory[last] = old[last]
+                });
+            }
+            More if is_accepted => return answer + 1,
+            _ => {}
+        }
+        answer
     }
 }
 

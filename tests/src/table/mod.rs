@@ -56,6 +56,11 @@ impl Row {
         self.call.takes().iter().copied().filter(move |part| !is_written(part))
     }
 
+    /// The end of what it wrote in a memory, by what it left and answered.
+    pub fn end(&self, at: usize, lent: &Lent, answer: u64) -> usize {
+        (self.writes[at].end)(lent, answer)
+    }
+
     /// Its numbers, each once.
     pub fn numbers(&self) -> Vec<u64> {
         let mut numbers: Vec<_> = self.refusals.iter().map(|no| no.number).collect();
