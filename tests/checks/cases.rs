@@ -134,7 +134,7 @@ fn a_full_bucket_may_have_any_count() {
 /// which no list reaches, a packet waits for a whole period, and P + T − 2 is one cycle less.
 #[test]
 fn an_empty_bucket_with_count_0_breaks_the_promise() {
-    let plan = Plan { sx: 1, sy: 1, flows: vec![Flow::from_numbers([0, 0, 0, 0, 2, 1])] };
+    let plan = Plan::of(1, 1, &[[0, 0, 0, 0, 2, 1]]);
     assert_eq!(window(&plan, 0), Some(1));
     let mut state = words(&Book::new(plan));
     state[14..16].copy_from_slice(&[0, 0]);
@@ -172,7 +172,7 @@ fn plan_sizes() {
 
 #[test]
 fn the_smallest_torus() {
-    let plan = Plan { sx: 1, sy: 1, flows: vec![Flow::from_numbers([0, 0, 0, 0, 3, 2])] };
+    let plan = Plan::of(1, 1, &[[0, 0, 0, 0, 3, 2]]);
     let mut book = Book::new(plan);
     for _ in 0..3 {
         book.offer(0).unwrap();

@@ -31,15 +31,15 @@ use std::thread;
 /// Every fault.
 fn planted() -> Vec<Fault> {
     let mut planted = routine::faults();
-    for faults in
-        [engine::faults(), trial::faults(), reasons::faults(), bounds::faults(), listing::faults()]
-    {
-        planted.extend(faults);
-    }
+    planted.extend(engine::faults());
+    planted.extend(many::faults());
+    planted.extend(trial::faults());
+    planted.extend(reasons::faults());
+    planted.extend(bounds::faults());
+    planted.extend(listing::faults());
     for (call, by_hand) in [
         (Call::OfferSet, sets::FAULTS),
         (Call::Step, telling::PLAIN),
-        (Call::Steps(0), many::FAULTS),
         (Call::StepReasons, telling::FAULTS),
         (Call::Recent(0), recent::FAULTS),
     ] {

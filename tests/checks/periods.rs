@@ -127,7 +127,7 @@ fn slow_rivals_fill_a_link() {
 #[test]
 fn waits_of_eight_digits_are_printed() {
     let numbers = [[1, 0, 2, 0, MOST_PERIOD, 1], [0, 0, 3, 0, 65_536, 1]];
-    let plan = Plan { sx: 4, sy: 4, flows: numbers.map(Flow::from_numbers).to_vec() };
+    let plan = Plan::of(4, 4, &numbers);
     let lines = "0 E 3 3 16777216\n1 E 1 5 65535\n";
     assert_eq!(listing(&plan.file(&[])), format!("flow port window flight wait\n{lines}"));
     let text = listing(&late_window(LAST_WINDOW, &[65_536]).file(&[]));

@@ -11,7 +11,7 @@ use second::state::{judge, words};
 /// of cycle 9.
 fn plan() -> Plan {
     let flows = [[0, 0, 2, 0, 10, 2], [0, 0, 0, 1, 10, 2]];
-    Plan { sx: 4, sy: 4, flows: flows.map(Flow::from_numbers).to_vec() }
+    Plan::of(4, 4, &flows)
 }
 
 /// The state after reset, with so many packets of each flow waiting, in this cycle.

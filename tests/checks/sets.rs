@@ -2,7 +2,7 @@
 
 use second::book::Book;
 use second::calls::offer_set;
-use second::plan::{Flow, Plan, Refusal};
+use second::plan::{Plan, Refusal};
 use second::promises::{check, windows};
 use second::state::words;
 use second::window::window;
@@ -10,7 +10,7 @@ use second::window::window;
 /// Three flows on 4 by 4 that don't meet.
 fn plan() -> Plan {
     let flows = [[0, 0, 2, 0, 10, 1], [0, 1, 2, 1, 10, 2], [0, 2, 0, 2, 3, 1]];
-    Plan { sx: 4, sy: 4, flows: flows.map(Flow::from_numbers).to_vec() }
+    Plan::of(4, 4, &flows)
 }
 
 /// The state after reset, but for so many packets of flow 1 that wait.

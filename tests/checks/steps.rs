@@ -14,7 +14,7 @@ const MOST: u32 = u32::MAX;
 /// client, with P 1,000.
 fn plan() -> Plan {
     let flows = [[0, 0, 2, 0, 10, 1], [3, 3, 3, 3, 1000, 2]];
-    Plan { sx: 4, sy: 4, flows: flows.map(Flow::from_numbers).to_vec() }
+    Plan::of(4, 4, &flows)
 }
 
 /// The state after reset, with so many packets of each flow waiting, in this cycle.

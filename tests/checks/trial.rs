@@ -2,7 +2,7 @@
 
 use second::book::Book;
 use second::calls::{offer, offer_set, offer_trial, step};
-use second::plan::{Flow, Plan, refuse};
+use second::plan::{Plan, refuse};
 use second::promises::{check, windows};
 use second::state::words;
 use second::window::window;
@@ -10,7 +10,7 @@ use second::window::window;
 /// Two flows on 4 by 4 that don't meet: one two links east, one a link south.
 fn plan() -> Plan {
     let flows = [[0, 0, 2, 0, 10, 1], [1, 2, 1, 3, 7, 2]];
-    Plan { sx: 4, sy: 4, flows: flows.map(Flow::from_numbers).to_vec() }
+    Plan::of(4, 4, &flows)
 }
 
 /// The state after reset, but for so many packets of each flow that wait.

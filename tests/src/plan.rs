@@ -64,6 +64,11 @@ pub const RECORD: usize = 8;
 pub const MOST_PERIOD: i64 = 16_777_215;
 
 impl Plan {
+    /// The plan of flows with these numbers.
+    pub fn of(sx: i64, sy: i64, flows: &[[i64; 6]]) -> Plan {
+        Plan { sx, sy, flows: flows.iter().map(|&numbers| Flow::from_numbers(numbers)).collect() }
+    }
+
     /// ΔX of flow f.
     pub fn dx(&self, f: usize) -> i64 {
         (self.flows[f].xd - self.flows[f].xs).rem_euclid(self.sx)

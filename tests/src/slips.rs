@@ -1,7 +1,7 @@
 //! Slips that a router hand would make in the window, each with a small plan that refutes it:
 //! some list of offers makes a lone packet wait longer than the slipped T allows.
 
-use crate::plan::{Flow, Plan, Port};
+use crate::plan::{Plan, Port};
 use crate::window::{Rival, interference, least, least_window, rivals_by, spread};
 use crate::worst::Worst;
 
@@ -76,16 +76,11 @@ pub struct Refuted {
     pub wait: i64,
 }
 
-fn plan(sx: i64, sy: i64, flows: &[[i64; 6]]) -> Plan {
-    let flows = flows.iter().map(|&numbers| Flow::from_numbers(numbers)).collect();
-    Plan { sx, sy, flows }
-}
-
 /// For each slip a small plan that refutes it.
 pub fn refuted() -> Vec<Refuted> {
     let turn_and_column =
-        || plan(2, 2, &[[0, 0, 0, 0, 1, 2], [1, 0, 0, 1, 3, 1], [0, 1, 0, 0, 3, 1]]);
-    let exit_shared = || plan(5, 2, &[[2, 1, 2, 1, 1, 2], [0, 1, 2, 1, 2, 1]]);
+        || Plan::of(2, 2, &[[0, 0, 0, 0, 1, 2], [1, 0, 0, 1, 3, 1], [0, 1, 0, 0, 3, 1]]);
+    let exit_shared = || Plan::of(5, 2, &[[2, 1, 2, 1, 1, 2], [0, 1, 2, 1, 2, 1]]);
     let row =
         |slip, plan, f, window, slipped, wait| Refuted { slip, plan, f, window, slipped, wait };
     vec![
@@ -93,7 +88,7 @@ pub fn refuted() -> Vec<Refuted> {
         row(Slip::SouthOneRowLess, turn_and_column(), 0, 10, 7, 7),
         row(
             Slip::EastOneRowLess,
-            plan(2, 3, &[[1, 2, 0, 2, 1, 3], [0, 0, 0, 2, 3, 1], [1, 1, 0, 1, 2, 1]]),
+            Plan::of(2, 3, &[[1, 2, 0, 2, 1, 3], [0, 0, 0, 2, 3, 1], [1, 1, 0, 1, 2, 1]]),
             0,
             4,
             3,
@@ -102,7 +97,7 @@ pub fn refuted() -> Vec<Refuted> {
         row(Slip::LastRowSpared, exit_shared(), 0, 3, 1, 2),
         row(
             Slip::OtherPortIgnored,
-            plan(3, 3, &[[2, 0, 1, 2, 4, 1], [2, 0, 2, 0, 1, 1]]),
+            Plan::of(3, 3, &[[2, 0, 1, 2, 4, 1], [2, 0, 2, 0, 1, 1]]),
             1,
             3,
             1,
@@ -110,7 +105,7 @@ pub fn refuted() -> Vec<Refuted> {
         ),
         row(
             Slip::TurningIgnored,
-            plan(2, 2, &[[0, 0, 1, 1, 1, 2], [1, 0, 0, 0, 2, 1]]),
+            Plan::of(2, 2, &[[0, 0, 1, 1, 1, 2], [1, 0, 0, 0, 2, 1]]),
             0,
             3,
             1,
@@ -118,7 +113,7 @@ pub fn refuted() -> Vec<Refuted> {
         ),
         row(
             Slip::OtherRowsIgnored,
-            plan(2, 5, &[[0, 3, 1, 3, 2, 1], [1, 2, 1, 4, 3, 1]]),
+            Plan::of(2, 5, &[[0, 3, 1, 3, 2, 1], [1, 2, 1, 4, 3, 1]]),
             0,
             3,
             1,
@@ -126,7 +121,7 @@ pub fn refuted() -> Vec<Refuted> {
         ),
         row(
             Slip::SyForSx,
-            plan(3, 2, &[[0, 0, 0, 0, 1, 2], [2, 1, 0, 0, 3, 1], [1, 0, 0, 1, 4, 1]]),
+            Plan::of(3, 2, &[[0, 0, 0, 0, 1, 2], [2, 1, 0, 0, 3, 1], [1, 0, 0, 1, 4, 1]]),
             0,
             9,
             8,
@@ -144,7 +139,7 @@ pub fn met_exactly() -> (Plan, Worst) {
     let list = ",3,2,3,,3,,023,,23,3,,,23,3,,23,3,3,,23,,,";
     let digits = |cycle: &str| cycle.chars().map(|digit| digit.to_digit(10).unwrap()).collect();
     let offers = list.split(',').map(digits).collect();
-    (plan(2, 4, &flows), Worst { wait: 16, offers })
+    (Plan::of(2, 4, &flows), Worst { wait: 16, offers })
 }
 
 /// A column of two slow flows in which flow 0 can wait as long as its bound allows (P 65,536, T 3, wait
@@ -156,5 +151,5 @@ pub fn met_late() -> (Plan, Worst) {
     for (cycle, flow) in [(65_535, 0), (65_536, 0), (65_537, 0), (131_071, 1), (131_072, 1)] {
         offers[cycle].push(flow);
     }
-    (plan(1, 2, &flows), Worst { wait: 65_537, offers })
+    (Plan::of(1, 2, &flows), Worst { wait: 65_537, offers })
 }

@@ -1,6 +1,6 @@
 //! Faults of many steps in one call, each as a call with that fault in it.
 
-use super::simulator::{OneCall, Slip, refused};
+use super::simulator::{Fault, OneCall, Slip, in_call, refused, slips};
 use second::book::{self, Book, Bucket, PER_DELIVERY};
 use second::calls;
 use second::lent::Part::{Answer, Delivery, State};
@@ -111,36 +111,37 @@ fn counted(flow: &Flow, bucket: Bucket, cycles: i64) -> Bucket {
     Bucket { tokens, count: cycles % flow.period }
 }
 
-pub const FAULTS: &[Slip] = &[
-    // Which cycles are idle.
-    ("a leap over a flow that has a token", State, |lent| {
+/// Cycles that are passed and shouldn't be, and steps that are too few or too many. They show in the answer, in the
+/// state or in the deliveries.
+const RUNS: &[(&str, fn(&mut Lent) -> u64)] = &[
+    ("a leap over a flow that has a token", |lent| {
         idle_after(lent, |book| {
             let flows = book.waiting.iter_mut().zip(&book.buckets);
             flows.filter(|(_, bucket)| bucket.tokens > 0).for_each(|(lines, _)| lines.clear());
         })
     }),
-    ("a leap over a token that comes", Answer, |lent| {
+    ("a leap over a token that comes", |lent| {
         idle_after(lent, |book| {
             let flows = book.waiting.iter_mut().zip(&book.buckets);
             flows.filter(|(_, bucket)| bucket.tokens == 0).for_each(|(lines, _)| lines.clear());
         })
     }),
-    ("a leap that doesn't look at the last flow", Answer, |lent| {
+    ("a leap that doesn't look at the last flow", |lent| {
         idle_after(lent, |book| book.waiting.last_mut().unwrap().clear())
     }),
-    ("a leap that looks at the last flow alone", Answer, |lent| {
+    ("a leap that looks at the last flow alone", |lent| {
         idle_after(lent, |book| {
             let (_, others) = book.waiting.split_last_mut().unwrap();
             others.iter_mut().for_each(|lines| lines.clear());
         })
     }),
-    ("a leap over packets in flight", Answer, |lent| idle_after(lent, |book| book.placed.clear())),
-    ("a leap over one packet in flight", State, |lent| {
+    ("a leap over packets in flight", |lent| idle_after(lent, |book| book.placed.clear())),
+    ("a leap over one packet in flight", |lent| {
         idle_after(lent, |book| {
             book.placed.pop();
         })
     }),
-    ("a leap one cycle too far", Delivery, |lent| {
+    ("a leap one cycle too far", |lent| {
         passing(lent, |book, most| {
             let idle = book.pass_idle(most);
             let further = idle > 0 && idle < most && book.clone().pass_idle(1) == 0;
@@ -148,7 +149,30 @@ pub const FAULTS: &[Slip] = &[
             idle + further as i64
         })
     }),
-    // What they come to.
+    ("a cycle too many", |lent| running(lent, |cycles, _| cycles.saturating_add(1))),
+    ("a cycle too few", |lent| running(lent, |cycles, _| cycles.saturating_sub(1))),
+    ("no cycle taken for one", |lent| running(lent, |cycles, _| cycles.max(1))),
+    ("one cycle at most", |lent| running(lent, |cycles, _| cycles.min(1))),
+    ("cycles of one byte", |lent| running(lent, |cycles, _| cycles as u8 as u32)),
+    ("cycles of two bytes", |lent| running(lent, |cycles, _| cycles as u16 as u32)),
+    ("cycles of three bytes", |lent| running(lent, |cycles, _| cycles & 0xFF_FFFF)),
+    ("cycles with a sign", |lent| running(lent, |cycles, _| (cycles as i32).max(0) as u32)),
+    ("an end a cycle before the last clock", |lent| {
+        running(lent, |cycles, lent| cycles.min(u32::MAX - 1 - lent.state[3]))
+    }),
+    ("cycles taken for the clock to come to", |lent| {
+        running(lent, |cycles, lent| cycles.saturating_sub(lent.state[3]))
+    }),
+    ("one step more than the room allows", |lent| with_room(lent, |lent, least| lent + least)),
+    ("room judged at the start alone", |lent| with_room(lent, |lent, _| lent + 9999)),
+    ("an early end at exactly enough room", |lent| with_room(lent, |lent, _| lent - 1)),
+    ("an early end a delivery too early", |lent| with_room(lent, |lent, _| lent - 5)),
+    ("an early end without room for two steps", |lent| with_room(lent, |lent, least| lent - least)),
+    ("an end a word too late", |lent| with_room(lent, |lent, _| lent + 1)),
+];
+
+/// What idle cycles come to, where the call ends or is refused, and its deliveries and their count.
+const FAULTS: &[Slip] = &[
     ("a lost token kept over a leap", State, |lent| {
         counting(lent, |flow, bucket, idle| {
             let tokens = bucket.tokens + (bucket.count + idle) / flow.period;
@@ -187,37 +211,12 @@ pub const FAULTS: &[Slip] = &[
     ("the clock advanced by one over a leap", State, |lent| {
         bent(lent, |book, before, _| book.clock = before.clock + 1)
     }),
-    // How many steps.
-    ("a cycle too many", State, |lent| running(lent, |cycles, _| cycles.saturating_add(1))),
-    ("a cycle too few", State, |lent| running(lent, |cycles, _| cycles.saturating_sub(1))),
-    ("no cycle taken for one", State, |lent| running(lent, |cycles, _| cycles.max(1))),
-    ("one cycle at most", Answer, |lent| running(lent, |cycles, _| cycles.min(1))),
-    ("cycles of one byte", State, |lent| running(lent, |cycles, _| cycles as u8 as u32)),
-    ("cycles of two bytes", State, |lent| running(lent, |cycles, _| cycles as u16 as u32)),
-    ("cycles of three bytes", State, |lent| running(lent, |cycles, _| cycles & 0xFF_FFFF)),
-    ("cycles with a sign", Answer, |lent| running(lent, |cycles, _| (cycles as i32).max(0) as u32)),
-    ("an end a cycle before the last clock", State, |lent| {
-        running(lent, |cycles, lent| cycles.min(u32::MAX - 1 - lent.state[3]))
-    }),
-    ("cycles taken for the clock to come to", State, |lent| {
-        running(lent, |cycles, lent| cycles.saturating_sub(lent.state[3]))
-    }),
     ("the last clock passed", State, |lent| {
         ending(lent, |lent, answer| {
             lent.state[3] %= u32::MAX;
             answer
         })
     }),
-    ("one step more than the room allows", State, |lent| {
-        with_room(lent, |lent, least| lent + least)
-    }),
-    ("room judged at the start alone", State, |lent| with_room(lent, |lent, _| lent + 9999)),
-    ("an early end at exactly enough room", Answer, |lent| with_room(lent, |lent, _| lent - 1)),
-    ("an early end a delivery too early", Answer, |lent| with_room(lent, |lent, _| lent - 5)),
-    ("an early end without room for two steps", Answer, |lent| {
-        with_room(lent, |lent, least| lent - least)
-    }),
-    ("an end a word too late", Answer, |lent| with_room(lent, |lent, _| lent + 1)),
     ("refused where it should end early", Answer, |lent| ending(lent, |_, _| refused(10, 0))),
     ("refused with 11 where it should end early", Answer, |lent| {
         ending(lent, |_, _| refused(11, 0))
@@ -237,7 +236,6 @@ pub const FAULTS: &[Slip] = &[
         (0, 10 | 11) => 0,
         _ => lent.right(),
     }),
-    // Deliveries and their count.
     ("deliveries of a later step over an earlier one's", Delivery, |lent| {
         let (before, answer) = (lent.delivery.to_vec(), lent.right());
         let exits = if answer < 1 << 32 { PER_DELIVERY * answer as usize } else { 0 };
@@ -266,3 +264,10 @@ pub const FAULTS: &[Slip] = &[
         }
     }),
 ];
+
+pub fn faults() -> Vec<Fault> {
+    let call = Call::Steps(0);
+    let runs =
+        RUNS.iter().map(|&(name, does)| in_call(call, name, &[Answer, State, Delivery], does));
+    runs.chain(slips(call, FAULTS)).collect()
+}

@@ -1,8 +1,8 @@
 //! Many steps in one call, beside single ones on the same states: refusals, early ends, the last clock and
 //! idle stretches.
 
+use super::orders::three_queues;
 use super::periods::waiting_state;
-use super::states::{three_queues, whole_and_broken};
 use super::{Memory, Run, recent, steps};
 use crate::book::{Book, Bucket, PER_DELIVERY};
 use crate::lent::Call;
@@ -34,30 +34,10 @@ fn call(run: &mut Run, state: &[u32], room: usize, cycles: u32) -> Option<(u32, 
     Some((memory.words()[3], exits))
 }
 
-/// Each refusal alone, and in front of and behind each other one, for a plain step and for no cycle, one,
-/// a few and the most.
-pub fn orders(run: &mut Run) {
-    for clock in [7, MOST - 1, MOST] {
-        let mut state = three_queues([1, 0, 2]);
-        state[3] = clock;
-        for state in whole_and_broken(&state) {
-            for room in [0, 3, 29, 30, 31, 99] {
-                let many = [0, 1, 3, MOST].map(Call::Steps);
-                for call in many.into_iter().chain([Call::Step]) {
-                    let memory = &mut run.on(&state, 0);
-                    steps::plain(run.random, memory, room);
-                    run.accepts(call, memory);
-                }
-            }
-        }
-    }
-}
-
 /// One router, from which a packet leaves in every cycle: it runs as many steps as there are whole groups
 /// of five words, or as many as it is asked for.
 fn exact_rooms(run: &mut Run) {
-    let flows = vec![Flow::from_numbers([0, 0, 0, 0, 1, 1])];
-    let mut state = words(&Book::new(Plan { sx: 1, sy: 1, flows }));
+    let mut state = words(&Book::new(Plan::of(1, 1, &[[0, 0, 0, 0, 1, 1]])));
     state[waiting_at(0)] = 400;
     for room in (5..27).chain(1499..1502) {
         for cycles in [0, 1, 2, 3, 4, 5, 6, 300, MOST] {
@@ -122,7 +102,7 @@ fn stretches(run: &mut Run) {
 /// period 100, one for three of period 7, and one enters at once.
 pub fn interrupted(run: &mut Run) {
     let flows = [[0, 0, 1, 1, 100, 2], [1, 1, 1, 1, 7, 1], [0, 1, 1, 0, 50, 1]];
-    let mut book = Book::new(Plan { sx: 2, sy: 2, flows: flows.map(Flow::from_numbers).to_vec() });
+    let mut book = Book::new(Plan::of(2, 2, &flows));
     for (flow, waiting) in [(0, 2), (1, 3), (2, 1)] {
         book.buckets[flow].tokens = flow as i64 / 2;
         (0..waiting).for_each(|_| book.add_waiting_line(flow));

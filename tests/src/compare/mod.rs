@@ -7,6 +7,7 @@ pub mod engine;
 pub mod listing;
 pub mod lists;
 pub mod many;
+mod orders;
 pub mod parts;
 pub mod periods;
 pub mod plans;

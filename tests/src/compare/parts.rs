@@ -2,7 +2,8 @@
 //! own, the last one's + 1, which gives the torus too, so that 256 rounds go through all sizes.
 
 use super::{
-    Others, Run, Tally, bounds, engine, lists, many, periods, reasons, recent, sets, states, trial,
+    Others, Run, Tally, bounds, engine, lists, many, orders, periods, reasons, recent, sets,
+    states, trial,
 };
 use crate::lent::Engine;
 use crate::random::{Random, plan};
@@ -65,11 +66,9 @@ pub fn engine_of(others: &mut Others, seed: u64, extent: Extent) -> Tally {
 
 /// What is at a boundary of one of the engine's calls, the quickest first.
 pub fn boundaries(run: &mut Run) {
+    orders::orders(run);
     trial::boundaries(run);
     sets::boundaries(run);
-    many::orders(run);
-    reasons::orders(run);
-    states::writes(run);
     states::resets(run);
     recent::boundaries(run);
     many::boundaries(run);

@@ -46,8 +46,7 @@ pub fn late_windows() -> Vec<Plan> {
 /// Three flows on a 5 by 3 torus, with notes.
 fn base() -> Vec<u8> {
     let flows = [[0, 0, 4, 2, 65_535, 255], [4, 2, 0, 0, 1, 1], [3, 1, 3, 1, 256, 7]];
-    let flows = flows.map(Flow::from_numbers).to_vec();
-    Plan { sx: 5, sy: 3, flows }.file(b"notes")
+    Plan::of(5, 3, &flows).file(b"notes")
 }
 
 /// The file with one byte changed: each byte of records and trailer, to each of these values.

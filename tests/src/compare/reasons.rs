@@ -4,7 +4,6 @@
 use super::Run;
 use super::scenes::{Scene, all_pairs, scenes};
 use super::sets::{self, offer_set};
-use super::states::{three_queues, whole_and_broken};
 use super::steps::{self, about};
 use crate::lent::Call;
 use crate::random;
@@ -50,24 +49,6 @@ fn in_turn(run: &mut Run, scene: &Scene, period: i64) -> Vec<u32> {
         run.accepts(single, memory);
     }
     first
-}
-
-/// Each refusal alone, and in front of and behind each other one: words that form no state, too few of
-/// them, and in the last cycle, each with memories that are too short, long enough or longer.
-pub fn orders(run: &mut Run) {
-    for clock in [7, u32::MAX - 1, u32::MAX] {
-        let mut state = three_queues([1, 0, 2]);
-        state[3] = clock;
-        for state in whole_and_broken(&state) {
-            for room in [0, 3, 29, 30, 31, 99] {
-                for told in [0, 1, 2, 3, 4, 99] {
-                    let memory = &mut run.on(&state, 0);
-                    let step = steps::telling(run.random, memory, room, told);
-                    run.accepts(step, memory);
-                }
-            }
-        }
-    }
 }
 
 /// A plan of so many flows on a square torus, with every length of both memories about its limit, on a state

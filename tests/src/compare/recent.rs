@@ -1,12 +1,11 @@
 //! Recent flights, one call at a time, on any memory: answer and records as U1 states them.
 
-use super::deliveries::{any_good, good, good_of, list, nearly, of_no_flow};
-use super::states::whole_and_broken;
+use super::deliveries::{any_good, good, good_of, list, nearly};
 use super::twin::GUARD;
 use super::{Memory, Run, Twin};
 use crate::book::{Book, PER_DELIVERY};
 use crate::lent::Call;
-use crate::plan::{Flow, Plan};
+use crate::plan::Plan;
 use crate::random::{self, Random};
 use crate::recent::{ROOM, Record, groups, holding};
 use crate::state::words;
@@ -36,7 +35,7 @@ pub fn feed_step(run: &mut Run, memory: &mut Memory, exits: u64, last: u32) {
 }
 
 /// So many lent records, with more around them.
-fn records(random: &mut Random, count: usize, last: u32) -> Twin<Record> {
+pub fn records(random: &mut Random, count: usize, last: u32) -> Twin<Record> {
     Twin::new((0..count + 2 * GUARD).map(|_| record(random, last)).collect())
 }
 
@@ -63,7 +62,7 @@ fn any_last(random: &mut Random) -> u32 {
     }
 }
 
-/// Refusals in every order, what nearly is a delivery in every place of a list, and full records.
+/// What nearly is a delivery in every place of a list, and full records.
 pub fn boundaries(run: &mut Run) {
     let flows = [
         [0, 0, 2, 2, 9, 1],
@@ -72,38 +71,13 @@ pub fn boundaries(run: &mut Run) {
         [1, 0, 1, 2, 9, 1],
         [0, 0, 4, 1, 9, 1],
     ];
-    let plan = Plan { sx: 5, sy: 3, flows: flows.map(Flow::from_numbers).to_vec() };
-    orders(run, &plan);
+    let plan = Plan::of(5, 3, &flows);
     for f in 0..plan.flows.len() {
         for group in nearly(&plan, f).into_iter().chain(good(&plan, f)) {
             in_every_place(run, &plan, group);
         }
         for last in 1..=ROOM as u32 {
             filled(run, &plan, f, last);
-        }
-    }
-}
-
-/// Each refusal alone, and in front of and behind each other one.
-fn orders(run: &mut Run, plan: &Plan) {
-    let state = words(&Book::new(plan.clone()));
-    let (right, wrong) = (good(plan, 1)[1], of_no_flow(plan, 4));
-    let lists = [
-        vec![],
-        right.to_vec(),
-        wrong.to_vec(),
-        [right, wrong].concat(),
-        [wrong, right].concat(),
-        wrong[..4].to_vec(),
-    ];
-    let flows = plan.flows.len();
-    for state in &whole_and_broken(&state) {
-        for count in [0, flows - 1, flows, flows + 2] {
-            for last in [0, 1, 16, 17, u32::MAX] {
-                for list in &lists {
-                    call(run, state, list, count, last);
-                }
-            }
         }
     }
 }

@@ -1,6 +1,6 @@
 //! Sets of offers, one call at a time, on any memory: answer and state as U4 states them.
 
-use super::states::{three_queues, whole_and_broken};
+use super::orders::three_queues;
 use super::twin::GUARD;
 use super::{Memory, Run, Twin, no_flows};
 use crate::book::Book;
@@ -41,10 +41,9 @@ pub fn offer_set(run: &mut Run, memory: &mut Memory, list: &[u32], flows: usize)
     run.accepts(Call::OfferSet, memory)
 }
 
-/// Refusals in every order, each at every position, and full queues.
+/// Numbers that are no flow's, at every position, and full queues.
 pub fn boundaries(run: &mut Run) {
     let nearly_full = |room: usize| three_queues([0, (MOST_WAITING - room) as u32, 0]);
-    orders(run, &nearly_full(1));
     for number in no_flows(2, 3) {
         in_every_place(run, &three_queues([0; 3]), number);
     }
@@ -57,27 +56,6 @@ pub fn boundaries(run: &mut Run) {
 pub fn call(run: &mut Run, state: &[u32], list: &[u32]) -> bool {
     let memory = &mut run.on(state, 0);
     offer_set(run, memory, list, 3)
-}
-
-/// Each refusal alone, and in front of and behind each other one. Flow 1 has room for one packet.
-fn orders(run: &mut Run, state: &[u32]) {
-    let lists: [&[u32]; 10] = [
-        &[],
-        &[0],
-        &[1],
-        &[3],
-        &[1, 1],
-        &[0, 3],
-        &[1, 1, 3],
-        &[1, 3, 1],
-        &[3, 1, 1],
-        &[0, 1, 2, 1, 3, 1],
-    ];
-    for state in whole_and_broken(state) {
-        for list in lists {
-            call(run, &state, list);
-        }
-    }
 }
 
 /// The number at every position of lists of flows, alone and with another one behind.

@@ -5,7 +5,7 @@ use super::{Memory, Run, Twin, engine, plans, recent, sets, steps};
 use crate::book::{Book, PER_DELIVERY};
 use crate::lent::Call;
 use crate::offers::MOST_WAITING;
-use crate::plan::{Flow, MOST_BYTES, MOST_PERIOD, Plan, RECORD, TRAILER};
+use crate::plan::{MOST_BYTES, MOST_PERIOD, Plan, RECORD, TRAILER};
 use crate::random::{self, Random};
 use crate::state::{HEADER, PER_FLOW, PER_REGISTER, age, places, register_at, waiting_at, words};
 
@@ -16,19 +16,6 @@ pub fn resets(run: &mut Run) {
         let mut memory = Memory::of_file(&file);
         memory.state = Twin::noise_words(run.random, length);
         run.accepts(Call::Reset, &mut memory);
-    }
-}
-
-/// Writing with each refusal alone, and in front of and behind each other one: notes and targets about their limits.
-pub fn writes(run: &mut Run) {
-    let least = RECORD * 3 + TRAILER;
-    for state in whole_and_broken(&three_queues([0; 3])) {
-        for notes in [0, MOST_BYTES - least, MOST_BYTES - least + 1] {
-            for room in [0, notes + least - 1, notes + least, notes + least + 1] {
-                let memory = &mut run.on(&state, 0);
-                engine::write(run, memory, &vec![7; notes], room);
-            }
-        }
     }
 }
 
@@ -72,8 +59,7 @@ fn small_state() -> Vec<u32> {
         [2, 2, 1, 2, 65_535, 255],
         [2, 0, 2, 0, MOST_PERIOD, 1],
     ];
-    let flows = flows.map(Flow::from_numbers).to_vec();
-    let mut book = Book::new(Plan { sx: 3, sy: 3, flows });
+    let mut book = Book::new(Plan::of(3, 3, &flows));
     for cycle in 0..6 {
         for flow in 0..5 {
             if (cycle + flow) % 3 != 0 {
@@ -83,31 +69,6 @@ fn small_state() -> Vec<u32> {
         book.step(45).unwrap();
     }
     words(&book)
-}
-
-/// Three flows on 3 by 2 after reset, with so many packets of each waiting.
-pub fn three_queues(waiting: [u32; 3]) -> Vec<u32> {
-    let flows = [[0, 0, 2, 1, 9, 1], [1, 1, 1, 1, 9, 1], [2, 0, 2, 1, 9, 1]];
-    let plan = Plan { sx: 3, sy: 2, flows: flows.map(Flow::from_numbers).to_vec() };
-    let mut state = words(&Book::new(plan));
-    for (flow, waiting) in waiting.into_iter().enumerate() {
-        state[waiting_at(flow)] = waiting;
-    }
-    state
-}
-
-/// A state of three flows or more, and what isn't one: cut short, with a word past its range, or both.
-pub fn whole_and_broken(state: &[u32]) -> Vec<Vec<u32>> {
-    let (size, tokens) = (state.len(), HEADER + 6);
-    let cut = [0, 7, HEADER, size - 1].map(|length| state[..length].to_vec());
-    let words = [0, 7, HEADER, tokens, waiting_at(1), waiting_at(2), size - 1];
-    let changed = words.map(|at| {
-        let mut state = state.to_vec();
-        state[at] = u32::MAX;
-        state
-    });
-    let both = [&changed[0][..7], &changed[0][..HEADER], &changed[2][..size - 1]];
-    [&[state.to_vec()][..], &cut, &changed, &both.map(<[u32]>::to_vec)].concat()
 }
 
 fn telling_values(word: u32) -> Vec<u32> {

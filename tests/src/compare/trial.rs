@@ -2,8 +2,8 @@
 //! answer and state as U6 states them.
 
 use super::lists::{By, List};
+use super::orders::three_queues;
 use super::sets::offer_set;
-use super::states::{three_queues, whole_and_broken};
 use super::{Run, no_flows, sets, steps};
 use crate::book::Book;
 use crate::lent::Call;
@@ -16,10 +16,9 @@ use crate::state::{waiting_at, words};
 const TRIAL: u32 = MOST_TRIAL as u32;
 const SONAR: u32 = MOST_WAITING as u32;
 
-/// Refusals in every order, queues about both limits, queues of other flows, numbers that are no flow's,
+/// Queues about both limits, queues of other flows, numbers that are no flow's,
 /// and an entry that makes room.
 pub fn boundaries(run: &mut Run) {
-    orders(run);
     for waiting in [0, 1, 127, 128, 253, 254, 255, 256, 257, 510, 511, 512] {
         limits(run, waiting);
     }
@@ -38,20 +37,6 @@ fn call(run: &mut Run, state: &[u32], flow: u32) -> bool {
     let past = run.random.index(4);
     let memory = &mut run.on(state, past);
     run.accepts(Call::OfferTrial(flow), memory)
-}
-
-/// Each refusal alone, and in front of and behind each other one, of both single offers. Flows 1 and 2 take no
-/// packet of the generator, and flow 2 none of the sonar.
-fn orders(run: &mut Run) {
-    let queues = [[TRIAL - 1, TRIAL, TRIAL + 1], [SONAR - 1, TRIAL, SONAR]];
-    for state in queues.iter().flat_map(|&queues| whole_and_broken(&three_queues(queues))) {
-        for flow in [0, 1, 2, 3, 4, u32::MAX] {
-            for call in [Call::Offer(flow), Call::OfferTrial(flow)] {
-                let memory = &mut run.on(&state, 0);
-                run.accepts(call, memory);
-            }
-        }
-    }
 }
 
 /// With so many packets of flow 1 waiting: the generator's offers, and the sonar's one by one and as
