@@ -4,6 +4,7 @@
 pub mod bounds;
 mod deliveries;
 pub mod engine;
+mod list;
 pub mod listing;
 pub mod lists;
 pub mod many;

@@ -49,24 +49,26 @@ fn calls() -> Vec<Call> {
     calls
 }
 
-/// Every call, in the last cycle too, where the queues are about the generator's limit; and the offers where they are
-/// about the sonar's.
+/// Every call, in the last cycle too, where the queues are about the generator's limit; and the offers where flow 1 has
+/// room for one packet of the sonar, or for none.
 pub fn orders(run: &mut Run) {
     let [trial, sonar] = [MOST_TRIAL, MOST_WAITING].map(|most| most as u32);
-    for (queues, clocks) in [
-        ([trial - 1, trial, trial + 1], &[7, u32::MAX - 1, u32::MAX][..]),
-        ([0, sonar - 1, sonar], &[7]),
-    ] {
-        let mut state = three_queues(queues);
-        for &clock in clocks {
-            state[3] = clock;
-            for state in whole_and_broken(&state) {
-                let is_offer = |call: &Call| call.name().starts_with("offer");
-                for call in calls().into_iter().filter(|call| clocks.len() > 1 || is_offer(call)) {
-                    let memory = run.on(&state, 0);
-                    with_memories(run, call, call.takes(), memory);
-                }
-            }
+    let (all, offers) = (|_: &Call| true, |call: &Call| call.takes() == [Part::State]);
+    for clock in [7, u32::MAX - 1, u32::MAX] {
+        on_states(run, [trial - 1, trial, trial + 1], clock, all);
+    }
+    on_states(run, [0, sonar - 1, 0], 7, |&call| call == Call::OfferSet);
+    on_states(run, [0, sonar, 0], 7, offers);
+}
+
+/// These calls with each choice of their memories.
+fn on_states(run: &mut Run, queues: [u32; 3], clock: u32, which: fn(&Call) -> bool) {
+    let mut state = three_queues(queues);
+    state[3] = clock;
+    for state in whole_and_broken(&state) {
+        for call in calls().into_iter().filter(which) {
+            let memory = run.on(&state, 0);
+            with_memories(run, call, call.takes(), memory);
         }
     }
 }
@@ -86,7 +88,7 @@ fn with_memories(run: &mut Run, call: Call, parts: &[Part], mut memory: Memory) 
     }
 }
 
-/// Sets for flow 1, which has room for one packet or for none, with numbers that are no flow's.
+/// Sets with packets of flow 1, and with numbers that are no flow's.
 const SETS: [&[u32]; 10] = [
     &[],
     &[0],

@@ -1,7 +1,7 @@
 //! The trial generator's offers, beside the sonar's on the same queues, one call at a time and in lists:
 //! answer and state as U6 states them.
 
-use super::lists::{By, List};
+use super::list::{By, List};
 use super::orders::three_queues;
 use super::sets::offer_set;
 use super::{Run, no_flows, sets, steps};
