@@ -227,11 +227,10 @@ const FAULTS: &[Slip] = &[
             lent.delivery.len() < least(lent) * cycles(lent) as usize
         })
     }),
-    (
-        "nothing judged for no cycle",
-        Answer,
-        |lent| if cycles(lent) == 0 { 0 } else { lent.right() },
-    ),
+    ("nothing judged for no cycle", Answer, |lent| match cycles(lent) {
+        0 => 0,
+        _ => lent.right(),
+    }),
     ("10 and 11 not judged for no cycle", Answer, |lent| match (cycles(lent), lent.number()) {
         (0, 10 | 11) => 0,
         _ => lent.right(),

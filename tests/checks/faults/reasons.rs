@@ -153,6 +153,11 @@ impl Cycle {
         }
     }
 
+    /// The right reason, but for this flow's word, which is left.
+    fn leaving(&self, flow: usize, left: usize) -> u32 {
+        if flow == left { self.lent[flow] } else { self.right[flow] }
+    }
+
     /// This reason where the right one is among these and this holds.
     fn but(&self, flow: usize, told: u32, right: &[u32], holds: bool) -> u32 {
         if holds && right.contains(&self.right[flow]) { told } else { self.right[flow] }
@@ -283,21 +288,9 @@ const FAULTS: &[(&str, fn(&Cycle, usize) -> u32)] = &[
     ("the word of a flow without packets left", |cycle, flow| {
         cycle.but(flow, cycle.lent[flow], &[1], true)
     }),
-    (
-        "the first flow's word left",
-        |cycle, flow| {
-            if flow == 0 { cycle.lent[0] } else { cycle.right[flow] }
-        },
-    ),
-    ("the last flow's word left", |cycle, flow| {
-        if flow + 1 == cycle.right.len() { cycle.lent[flow] } else { cycle.right[flow] }
-    }),
-    (
-        "flow 255's word left",
-        |cycle, flow| {
-            if flow == 255 { cycle.lent[flow] } else { cycle.right[flow] }
-        },
-    ),
+    ("the first flow's word left", |cycle, flow| cycle.leaving(flow, 0)),
+    ("the last flow's word left", |cycle, flow| cycle.leaving(flow, cycle.right.len() - 1)),
+    ("flow 255's word left", |cycle, flow| cycle.leaving(flow, 255)),
     ("the low byte of a word alone", |cycle, flow| cycle.lent[flow] & !0xFF | cycle.right[flow]),
     ("the low two bytes of a word alone", |cycle, flow| {
         cycle.lent[flow] & !0xFFFF | cycle.right[flow]

@@ -1,7 +1,7 @@
 //! A list of calls after a reset: the book is fed each call's kind and arguments, and after each
 //! call its answer, its deliveries and reasons and the words of its state are compared, whole.
 
-use super::{Memory, Run, Twin, engine, recent, sets, steps};
+use super::{Memory, Run, Twin, recent, sets, steps};
 use crate::book::{Book, Delivery};
 use crate::calls::Answer;
 use crate::lent::{Call, Lent};
@@ -123,7 +123,7 @@ impl List {
                 let notes = run.random.bytes(9);
                 let length = self.book.plan.file_bytes(notes.len());
                 let room = length + 3 - run.random.index(5);
-                engine::write(run, memory, &notes, room);
+                run.write(memory, &notes, room);
             }
         }
         (self.memory.state.lent, self.memory.file.lent) = (whole, file);

@@ -3,7 +3,6 @@
 
 pub mod bounds;
 mod deliveries;
-pub mod engine;
 mod list;
 pub mod listing;
 pub mod lists;

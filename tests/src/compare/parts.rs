@@ -2,11 +2,11 @@
 //! own, the last one's + 1, which gives the torus too, so that 256 rounds go through all sizes.
 
 use super::{
-    Others, Run, Tally, bounds, engine, lists, many, orders, periods, reasons, recent, sets,
-    states, trial,
+    Others, Run, Tally, bounds, lists, many, orders, periods, reasons, recent, sets, states, trial,
 };
 use crate::lent::Engine;
 use crate::random::{Random, plan};
+use crate::table;
 use std::time::{Duration, Instant};
 
 /// How long the rounds go on: as many as the gate runs, or so many seconds.
@@ -29,7 +29,7 @@ pub fn bounds_of(others: &mut Others, seed: u64, extent: Extent) -> Tally {
     rounds("bounds", &mut tally, extent, |tally, random, sx, sy| {
         bounds::round(&mut Run { others, tally, random }, sx, sy);
     });
-    engine::all_came_up(&tally, true);
+    all_came_up(&tally, true);
     tally
 }
 
@@ -60,7 +60,7 @@ pub fn engine_of(others: &mut Others, seed: u64, extent: Extent) -> Tally {
         reasons::came_up_often([0, 1, 2, 3, 4, 5].map(|at| tally.reasons[at] - by_hand[at]));
     }
     long_lists(&mut Run { others, tally: &mut tally, random: &mut random });
-    engine::all_came_up(&tally, false);
+    all_came_up(&tally, false);
     tally
 }
 
@@ -93,6 +93,13 @@ fn long_lists(run: &mut Run) {
         lists::saturated(run, plan, 60);
     }
     sets::past_all_queues(run);
+}
+
+/// Each call, of the bounds or of the engine, has been accepted, and refused with each number that it has.
+fn all_came_up(tally: &Tally, bounds: bool) {
+    for row in table::rows(bounds) {
+        tally.must_have_come_up(row.call.name(), row.numbers());
+    }
 }
 
 pub(crate) fn rounds(

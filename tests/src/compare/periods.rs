@@ -1,7 +1,7 @@
 //! Periods of three bytes, by U5: plan files with each boundary of P, rivals that are slow, states of
 //! slow flows, and plan files that come back from their states byte for byte.
 
-use super::{Memory, Run, Twin, engine, states, steps};
+use super::{Memory, Run, Twin, states, steps};
 use crate::book::Book;
 use crate::lent::Call;
 use crate::plan::{Flow, MOST_PERIOD, Plan, file_of};
@@ -127,7 +127,7 @@ fn round_trip(run: &mut Run, file: &[u8]) {
     let memory = &mut Memory::of_file(file);
     memory.state = Twin::noise_words(run.random, size(256, 15));
     if run.accepts(Call::Reset, memory) {
-        engine::write(run, memory, &[], file.len());
+        run.write(memory, &[], file.len());
         assert!(memory.target.got() == file, "expected the bytes that reset read: {file:?}");
     }
 }

@@ -95,6 +95,13 @@ impl Run<'_, '_> {
         answer
     }
 
+    /// Writing these notes to a target of so many bytes of noise.
+    pub fn write(&mut self, memory: &mut Memory, notes: &[u8], room: usize) {
+        memory.notes = Twin::exact(notes);
+        memory.target = Twin::noise_bytes(self.random, room);
+        self.accepts(Call::Write, memory);
+    }
+
     /// A state alone: these words, with noise around them, and so much of it behind.
     pub fn on(&mut self, state: &[u32], past: usize) -> Memory {
         Memory::of(Twin::words(self.random, state, past))

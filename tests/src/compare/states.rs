@@ -1,7 +1,7 @@
 //! States that no run reaches, damaged words, and lent lengths from 0.
 
 use super::steps::about;
-use super::{Memory, Run, Twin, engine, plans, recent, sets, steps};
+use super::{Memory, Run, Twin, plans, recent, sets, steps};
 use crate::book::{Book, PER_DELIVERY};
 use crate::lent::Call;
 use crate::offers::MOST_WAITING;
@@ -118,7 +118,7 @@ fn write(run: &mut Run, memory: &mut Memory, flows: usize) {
     let notes = if random.percent(3) { near(random, MOST_BYTES - least) } else { random.index(20) };
     let room = if random.percent(10) { random.index(40) } else { near(random, notes + least) };
     let notes = random.bytes(notes);
-    engine::write(run, memory, &notes, room);
+    run.write(memory, &notes, room);
 }
 
 /// Made-up states of a plan on this torus: calls on them, steps in a row with their flights kept, and
