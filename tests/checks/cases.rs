@@ -21,7 +21,7 @@ fn one_packet_each(plan: Plan) -> Vec<(i64, i64, i64)> {
         assert_eq!(book.offer(f as u32), Ok(0));
     }
     while book.lines.iter().any(|line| line.exit.is_none()) {
-        book.step(5 * book.plan.routers()).unwrap();
+        book.step(book.plan.delivery_words()).unwrap();
     }
     book.lines.iter().map(|line| (line.entry.unwrap(), line.exit.unwrap().0, line.d)).collect()
 }

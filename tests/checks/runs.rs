@@ -16,7 +16,7 @@ fn run(random: &mut Random, mut book: Book, calls: usize) {
     let watched = random.index(flows);
     let windows = windows(&book, |f| flows < 12 || f == watched);
     let offers = random.pick(&[5, 50, 90]);
-    let room = 5 * book.plan.routers();
+    let room = book.plan.delivery_words();
     let mut delivered = Vec::new();
     for _ in 0..calls {
         if random.percent(5) {

@@ -115,7 +115,7 @@ fn as_single_steps_one_after_the_other() {
     for _ in 0..600 {
         let plan = random::any_plan(&mut random);
         let before = random::state(&mut random, &plan);
-        let least = 5 * plan.routers();
+        let least = plan.delivery_words();
         let (room, cycles) = (least + random.index(2 * least), random.from(0, 60) as u32);
         let (mut single, mut delivery) = (before.clone(), vec![7; room]);
         let expected = one_by_one(&mut single, &mut delivery, cycles);

@@ -15,7 +15,7 @@ fn replay(worst: &Worst, plan: &second::plan::Plan, f: usize) -> i64 {
         for &flow in flows {
             book.offer(flow).unwrap();
         }
-        delivered.extend(book.step(5 * plan.routers()).unwrap());
+        delivered.extend(book.step(plan.delivery_words()).unwrap());
     }
     check(&book, &windows(&book, |_| true), &delivered);
     let last = book.lines.iter().rfind(|line| line.flow == f).unwrap();

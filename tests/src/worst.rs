@@ -38,7 +38,7 @@ fn cycle(book: &Book, entering: &[u32]) -> Option<Book> {
     for &flow in entering {
         next.offer(flow).unwrap();
     }
-    next.step(5 * next.plan.routers()).unwrap();
+    next.step(next.plan.delivery_words()).unwrap();
     let entered = |&flow: &u32| next.entered[flow as usize] > book.entered[flow as usize];
     if !entering.iter().all(entered) {
         return None;
