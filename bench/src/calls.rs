@@ -2,8 +2,9 @@
 
 use crate::loads::{Case, Load, SIZES, case};
 use crate::many_steps;
-use crate::plain::{EXIT, step};
+use crate::plain::step;
 use crate::times::{Sides, print_row};
+use second::book::PER_DELIVERY;
 use second::lent::{Call, Copied, Engine, Lent};
 use second::recent::Record;
 use std::hint::black_box;
@@ -161,7 +162,7 @@ fn delivered(case: &Case, state: &[u32]) -> (Vec<u32>, Vec<Vec<u32>>) {
     let mut delivery = vec![0; case.room()];
     let mut deliver = || {
         let exits = step(&mut memory, &mut delivery);
-        delivery[..EXIT * exits as usize].to_vec()
+        delivery[..PER_DELIVERY * exits as usize].to_vec()
     };
     let deliveries = (0..BATCH).map(|_| deliver()).collect();
     (memory, deliveries)

@@ -1,11 +1,12 @@
 //! The plans and states that are timed: three sizes, each with nothing to do, lightly and fully loaded,
 //! and with slow flows.
 
-use crate::plain::{delivery_words, reset, state_words, step};
+use crate::plain::{reset, step};
+use second::book::PER_DELIVERY;
 use second::lent::{Call, Copied};
 use second::plan::{Flow, MOST_PERIOD, Plan};
 use second::random::Random;
-use second::state::{HEADER, PER_FLOW, waiting_at};
+use second::state::{HEADER, PER_FLOW, size, waiting_at};
 
 /// How much traffic a plan asks for.
 #[derive(Clone, Copy, Debug, PartialEq)]
@@ -85,7 +86,7 @@ fn climbing_burst(count: i64) -> i64 {
 
 impl Case {
     pub fn words(&self) -> usize {
-        state_words(self.routers(), self.flows)
+        size(self.flows, self.routers())
     }
 
     pub fn routers(&self) -> usize {
@@ -94,7 +95,7 @@ impl Case {
 
     /// The words of the deliveries of a step.
     pub fn room(&self) -> usize {
-        delivery_words(self.routers())
+        PER_DELIVERY * self.routers()
     }
 
     /// The state after some hundred cycles, with packets of every flow waiting unless it is idle.

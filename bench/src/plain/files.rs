@@ -1,9 +1,10 @@
 //! Reset and write: a plan file to a state and back.
 
 use super::plan::{numbers, read};
+use super::refused;
 use super::state::{EMPTY, parts, state};
-use super::{refused, state_words};
 use second::plan::{MOST_BYTES, RECORD, TRAILER};
+use second::state::size;
 
 pub fn reset(file: &[u8], words: &mut [u32]) -> u64 {
     let file = match read(file) {
@@ -12,7 +13,7 @@ pub fn reset(file: &[u8], words: &mut [u32]) -> u64 {
     };
     let count = file.records.len();
     let routers = (file.sx * file.sy) as usize;
-    if words.len() < state_words(routers, count) {
+    if words.len() < size(count, routers) {
         return refused(8, 0);
     }
     let (header, flows, registers) = parts(words, routers, count);

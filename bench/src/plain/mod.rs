@@ -15,21 +15,7 @@ pub use files::reset;
 pub use plan::numbers;
 use second::lent::{Call, Lent};
 use second::offers::{MOST_TRIAL, MOST_WAITING};
-use second::state::{HEADER, PER_FLOW, PER_REGISTER};
 pub use step::step;
-
-/// The words of an exit.
-pub const EXIT: usize = 5;
-
-/// The words of a state with so many routers and flows.
-pub fn state_words(routers: usize, flows: usize) -> usize {
-    HEADER + PER_FLOW * flows + 2 * PER_REGISTER * routers
-}
-
-/// The words that a step must be lent for its deliveries.
-pub fn delivery_words(routers: usize) -> usize {
-    EXIT * routers
-}
 
 /// What plain Rust answers.
 pub fn plain(lent: &mut Lent) -> u64 {

@@ -1,7 +1,8 @@
 //! Recent flights: the refusals 16, 17 and 12, and a flow's record.
 
 use super::state::{State, state};
-use super::{EXIT, offset, refused};
+use super::{offset, refused};
+use second::book::Delivery;
 use second::recent::{ROOM, Record};
 
 /// Tests all deliveries, then feeds them.
@@ -27,7 +28,7 @@ pub fn recent(words: &[u32], deliveries: &[u32], records: &mut [Record], last: u
     0
 }
 
-fn is_delivery(state: &State, &[flow, _, entry, exit, d]: &[u32; EXIT]) -> bool {
+fn is_delivery(state: &State, &[flow, _, entry, exit, d]: &Delivery) -> bool {
     let Some(&[xs, ys, xd, yd, ..]) = state.flows.get(flow as usize) else {
         return false;
     };

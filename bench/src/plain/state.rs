@@ -1,9 +1,9 @@
 //! The words of a state: the refusals 8 and 9.
 
-use super::{offset, refused, state_words};
+use super::{offset, refused};
 use second::offers::MOST_WAITING;
 use second::plan::MOST_PERIOD;
-use second::state::{HEADER, PER_FLOW, PER_REGISTER};
+use second::state::{HEADER, PER_FLOW, PER_REGISTER, size};
 
 pub type FlowWords = [u32; PER_FLOW];
 pub type Register = [u32; PER_REGISTER];
@@ -29,7 +29,7 @@ fn split(words: &[u32]) -> Result<State<'_>, u64> {
         return Err(refused(9, 0));
     }
     let (sx, sy, count) = (sx as usize, sy as usize, count as usize);
-    if words.len() < state_words(sx * sy, count) {
+    if words.len() < size(count, sx * sy) {
         return Err(refused(8, 0));
     }
     let (flows, registers) = rest.split_at(PER_FLOW * count);

@@ -2,7 +2,8 @@
 //! of one cycle, plain and with reasons.
 
 use super::state::{EMPTY, FlowWords, Register, State, parts, state};
-use super::{EXIT, delivery_words, next, refused};
+use super::{next, refused};
+use second::book::{Delivery, PER_DELIVERY};
 use std::mem::replace;
 
 pub fn step(words: &mut [u32], delivery: &mut [u32]) -> u64 {
@@ -26,7 +27,7 @@ pub fn step_reasons(words: &mut [u32], delivery: &mut [u32], reasons: &mut [u32]
 /// The words of a state in the parts that a cycle changes, if it can step and deliver here.
 pub fn checked<'a>(words: &'a mut [u32], delivery: &[u32]) -> Result<Torus<'a>, u64> {
     let State { sx, sy, clock, flows, .. } = state(words)?;
-    if delivery.len() < delivery_words(sx * sy) {
+    if delivery.len() < PER_DELIVERY * sx * sy {
         return Err(refused(10, 0));
     }
     if clock == u32::MAX {
@@ -47,7 +48,7 @@ pub struct Torus<'a> {
 
 impl Torus<'_> {
     /// One cycle, which tells each flow's reason. Gives the count of exits.
-    pub fn cycle(&mut self, delivery: &mut [[u32; EXIT]], tell: impl FnMut(usize, u32)) -> usize {
+    pub fn cycle(&mut self, delivery: &mut [Delivery], tell: impl FnMut(usize, u32)) -> usize {
         let entering = self.enter(tell);
         let exits = self.route(&entering, delivery);
         *self.clock += 1;
@@ -94,7 +95,7 @@ impl Torus<'_> {
 
     /// Moves every packet and writes the exits. Gives their count. A register is written only once its
     /// old packet has been taken: the next W is held, and the N registers of the row to come.
-    fn route(&mut self, entering: &[u16; 256], delivery: &mut [[u32; EXIT]]) -> usize {
+    fn route(&mut self, entering: &[u16; 256], delivery: &mut [Delivery]) -> usize {
         let (sx, sy, clock) = (self.sx, self.sy, *self.clock);
         let (flows, registers) = (&*self.flows, &mut *self.registers);
         let mut exits = 0;
