@@ -42,7 +42,7 @@ extern "C" {
 /* The words of a state, and the fewest that may be lent for the deliveries of a step. */
 #define HRT_STATE_WORDS(flows, sx, sy) ((size_t)8 + 10 * (size_t)(flows) + 8 * (size_t)(sx) * (size_t)(sy))
 #define HRT_DELIVERY_WORDS(sx, sy) (5 * (size_t)(sx) * (size_t)(sy))
-#define HRT_MOST_STATE_WORDS HRT_STATE_WORDS(HRT_MOST_FLOWS, HRT_MOST_SIZE, HRT_MOST_SIZE)
+#define HRT_MOST_STATE_WORDS (8 + 10 * HRT_MOST_FLOWS + 8 * HRT_MOST_SIZE * HRT_MOST_SIZE)
 #define HRT_MOST_DELIVERY_WORDS (5 * HRT_MOST_SIZE * HRT_MOST_SIZE)
 
 /* What an answer says, of every call but hrt_window. The number of an accepted call is 0. */

@@ -41,7 +41,7 @@ fn limits() -> Vec<(&'static str, String)> {
         ("HRT_DELIVERY_WORDS(sx, sy)", format!("({EXIT_WORDS} * {grid})")),
         (
             "HRT_MOST_STATE_WORDS",
-            "HRT_STATE_WORDS(HRT_MOST_FLOWS, HRT_MOST_SIZE, HRT_MOST_SIZE)".to_string(),
+            format!("({HEAD_WORDS} + {FLOW_WORDS} * HRT_MOST_FLOWS + {router} * {size})"),
         ),
         ("HRT_MOST_DELIVERY_WORDS", format!("({EXIT_WORDS} * {size})")),
     ]
