@@ -150,8 +150,10 @@ fn feeds<'a>(host: Engine<'a>, case: &Case, state: &[u32], last: u32) -> impl Fn
     let records = vec![Record::default(); case.flows];
     let mut memories = Copied { records, ..case.stepping(&state, Call::Recent(last)) };
     move || {
+        let lent = &mut memories.lent();
         for deliveries in &mut deliveries {
-            black_box(host(&mut Lent { deliveries, ..memories.lent() }));
+            lent.deliveries = deliveries;
+            black_box(host(lent));
         }
     }
 }

@@ -3,7 +3,7 @@
 use crate::calls::{batch, cases};
 use crate::loads::{Case, Load, case};
 use crate::times::{Sides, print_row};
-use second::lent::{Call, Engine};
+use second::lent::{Call, Engine, Lent};
 use std::hint::black_box;
 
 const LOADS: [Load; 4] = [Load::Idle, Load::Few, Load::Standard, Load::Saturated];
@@ -68,16 +68,17 @@ fn many<'a>(host: Engine<'a>, case: &Case, state: &[u32]) -> impl FnMut() + use<
 
 /// Pings of all flows, each followed by steps in one call up to the next.
 fn stream<'a>(host: Engine<'a>, case: &Case) -> impl FnMut() + use<'a> {
-    let mut lent = case.stepping(&case.start(), Call::OfferSet);
-    lent.delivery.resize(2 * case.room(), 0);
-    lent.list = (0..case.flows as u32).collect();
-    let start = lent.state.clone();
+    let start = case.start();
+    let mut memories = case.stepping(&start, Call::Steps(PING_CYCLES));
+    memories.delivery.resize(2 * case.room(), 0);
+    let mut list: Vec<u32> = (0..case.flows as u32).collect();
     move || {
-        lent.state.copy_from_slice(&start);
+        memories.state.copy_from_slice(&start);
+        let lent = &mut Lent { list: &mut list, ..memories.lent() };
         for _ in 0..PINGS {
             for call in [Call::OfferSet, Call::Steps(PING_CYCLES)] {
                 lent.call = call;
-                black_box(host(&mut lent.lent()));
+                black_box(host(lent));
             }
         }
     }
