@@ -21,8 +21,10 @@ use faults::{bounds, engine, listing, many, reasons, recent, routine, sets, tell
 use second::compare::parts::{self, Extent};
 use second::compare::{self, Other, Others, Run, Tally};
 use second::lent::{Call, Lent};
+use second::plan::refuse;
 use second::random::Random;
 use second::{calls, table};
+use std::any::Any;
 use std::collections::BTreeMap;
 use std::panic::{AssertUnwindSafe, catch_unwind, set_hook, take_hook};
 use std::process::Command;
@@ -62,8 +64,9 @@ fn told_of_calls<'a>(faults: &[&'a Fault], bounds: bool) -> Vec<(&'a Fault, Opti
     }
     let mut others = Others::of(others);
     let compare = if bounds { parts::bounds_of } else { parts::engine_of };
-    let _ = catch_unwind(AssertUnwindSafe(|| compare(&mut others, 1, Extent::Gate)));
-    planted.into_iter().zip(others.told()).collect()
+    let ended = catch_unwind(AssertUnwindSafe(|| compare(&mut others, 1, Extent::Gate))).err();
+    let ended = ended.map(text);
+    planted.into_iter().zip(others.told().map(|told| told.or(ended.clone()))).collect()
 }
 
 /// What the comparison tells of a fault of the listing.
@@ -73,8 +76,15 @@ fn told_of_listing(fault: &Fault) -> Option<(&Fault, Option<String>)> {
     };
     let print = |file: &[u8]| print(file).into_bytes();
     let compared = || drop(compare::listing::run(print, 1, Extent::Gate));
-    let told = catch_unwind(AssertUnwindSafe(compared)).err();
-    Some((fault, told.and_then(|told| told.downcast().ok()).map(|told| *told)))
+    Some((fault, catch_unwind(AssertUnwindSafe(compared)).err().map(text)))
+}
+
+/// What a comparison told as it ended.
+fn text(why: Box<dyn Any + Send>) -> String {
+    match why.downcast::<String>() {
+        Ok(told) => *told,
+        Err(why) => why.downcast_ref::<&str>().copied().unwrap_or_default().to_string(),
+    }
 }
 
 /// A fault that isn't noticed, or is noticed by something else than what it changes.
@@ -121,10 +131,11 @@ fn faults_are_noticed() {
 fn the_table_tells_what_is_due() {
     let checked = |lent: &mut Lent| {
         let row = table::row(lent.call);
-        let due = row.first_due(lent).map_or(0, |at| row.refusals[at].number);
+        let due = row.first_due(lent).map(|at| &row.refusals[at]);
+        let due = due.map(|no| lent.call.returned(refuse(no.number, (no.place)(lent))));
         let answer = calls::simulator(lent);
-        let number = lent.call.number(answer);
-        assert!(due == number || due == 0 && number == 14, "{:?}: {due} for {number}", lent.call);
+        let refused = Some(answer).filter(|_| ![0, 14].contains(&lent.call.number(answer)));
+        assert_eq!(due, refused, "{:?}", lent.call);
         answer
     };
     let (mut tally, mut random) = (Tally::new(1), Random::new(1));

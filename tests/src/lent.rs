@@ -46,7 +46,7 @@ impl Call {
         }
     }
 
-    /// Each call, of flow, cycle or delivery 0.
+    /// Each call, with 0 for its number.
     pub const ALL: [Call; 12] = [
         Call::Notes,
         Call::Flight(0),

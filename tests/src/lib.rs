@@ -1,6 +1,6 @@
-//! A second simulator of the torus engine and a second reckoning of its bounds, written from
-//! 01's text by the packet book's lines, of U1's records, U4's sets, U5's periods and U7's reasons from
-//! 02's, and of many steps in one call; and the comparison of another engine with it.
+//! A second simulator of the torus engine and a second reckoning of its bounds, written from 01's text by the packet
+//! book's lines, and of U1's records, U3's regulator, U4's sets, U5's periods, U6's offers and U7's reasons from 02's;
+//! many steps in one call are its single steps. And the comparison of another engine with it.
 
 #[cfg(any(feature = "bounds", feature = "engine"))]
 pub mod archive;

@@ -49,8 +49,8 @@ fn calls() -> Vec<Call> {
     calls
 }
 
-/// Every call, in the last cycle too, where the queues are about the generator's limit; and the offers where flow 1 has
-/// room for one packet of the sonar, or for none.
+/// Every call, in the last cycle too, where the queues are about the generator's limit; sets where flow 1 has room for
+/// one packet of the sonar, and single offers where it has none.
 pub fn orders(run: &mut Run) {
     let [trial, sonar] = [MOST_TRIAL, MOST_WAITING].map(|most| most as u32);
     let (all, offers) = (|_: &Call| true, |call: &Call| call.takes() == [Part::State]);

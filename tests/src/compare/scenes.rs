@@ -205,7 +205,7 @@ const ELSEWHERE: &[Elsewhere] = &[
     ("one column, W goes S", [1, 3], COLUMN, &[(2, [0, 1], W, 1)], &[4, 4, 1, 1, 0]),
     ("one column, W leaves", [1, 3], COLUMN, &[(3, [0, 1], W, 1)], &[4, 4, 1, 1, 0]),
     (
-        "one column, W leaves, N turns",
+        "one column, W leaves, N deflected",
         [1, 3],
         COLUMN,
         &[(3, [0, 1], W, 1), (2, [0, 1], N, 0)],
