@@ -10,3 +10,4 @@ pub mod Grid
 pub mod Turns
 pub mod Written
 pub mod Zeros
+pub mod Bits

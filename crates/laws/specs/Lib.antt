@@ -4,3 +4,4 @@ pub mod Turns
 pub mod Written
 pub mod Count
 pub mod Grid
+pub mod Bits

@@ -1,0 +1,3 @@
+-- The laws of turning rows, and of the columns' words.
+pub mod Turning
+pub mod Columns
