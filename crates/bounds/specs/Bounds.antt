@@ -29,7 +29,7 @@ windowAnswer file f = asked file f (windowBy f (windowOf (planOf file) f))
 
 -- the flight bound of flow number f
 abbrev pub flightBoundOf : Plan → ℕ → ℕ
-flightBoundOf p f = flightBound (p .sx) (p .sy) (flowAt p f)
+flightBoundOf p f = flightBound p (flowAt p f)
 
 -- flight bound: plan, 12
 unfoldable pub flightBoundAnswer : List ℕ → ℕ → Answer

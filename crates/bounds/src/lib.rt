@@ -1,4 +1,4 @@
-// Bounds from a plan file: the window and the flight bound of a flow. Rests on plan and window.
+// Bounds from a plan file: the window and the flight bound of a flow. Rests on plan, turning, window and flight.
 use file::Trailer;
 use flow::Flow;
 use flow::Port;
@@ -11,9 +11,10 @@ ghost use Rattle.flow.specs.Offsets.{portOf};
 ghost use Rattle.flow.specs.Plan.{flowAt};
 ghost use Rattle.plan.specs.declared.Answer.the-variants.{Done};
 ghost use Rattle.file.specs.Layout.{planOf};
+ghost use Rattle.turning.specs.Columns.{TurningIn};
 ghost use Rattle.window.specs.Window.{windowOf};
 ghost use Rattle.window.specs.Rivals.{rivalWords, RivalsAmong};
-ghost use Rattle.bounds.specs.Inner.{FlowInFile};
+ghost use Rattle.bounds.specs.Inner.{Opened, FlowInFile};
 ghost use Rattle.bounds.specs.Bounds.{asked, windowAnswer, flightBoundAnswer, flightBoundOf};
 
 // Flow number f of an accepted file.
@@ -24,10 +25,24 @@ pub fn flow_at(file: &[u8], t: Trailer, f: u32) -> Flow
     file::flow_from(file, (t.start as usize) + file::RECORD_SIZE * (f as usize))
 }
 
+// The turning rows of an accepted file, found once: a word of bits for each column.
+pub fn turning_rows(file: &[u8], t: Trailer) -> [u32; turning::COLUMNS]
+    requires { ⌜ Opened (now file) t ⌝ }
+    ensures { λ r. ⌜ TurningIn (planOf (now (file .entry))) r ⌝ }
+{
+    let mut columns = [0u32; turning::COLUMNS];
+    let count = t.count;
+    for f in 0..count {
+        turning::note(&mut columns, flow_at(file, t, f));
+    }
+    columns
+}
+
 // Flow g, after the n rivals of flow f among the flows before it.
 fn meet(
     file: &[u8],
     t: Trailer,
+    columns: &[u32],
     own: Flow,
     port: Port,
     f: u32,
@@ -36,6 +51,7 @@ fn meet(
     n: usize,
 ) -> usize
     requires { ⌜ (FlowInFile (now file) t f) × (FlowInFile (now file) t g) ⌝ }
+    requires { ⌜ TurningIn (planOf (now file)) (now columns) ⌝ }
     requires { ⌜ (own ≡ flowAt (planOf (now file)) f) × (port ≡ portOf (t .sx) own) ⌝ }
     requires { ⌜ RivalsAmong (planOf (now file)) f g (now rivals) n ⌝ }
     ensures { λ r. ⌜ RivalsAmong (planOf (now (file .entry))) f (g + 1) (now (rivals .exit)) r ⌝ }
@@ -44,13 +60,15 @@ fn meet(
         return n;
     }
     let other = flow_at(file, t, g);
-    let c = conflict::conflict_of(t.sx, t.sy, own, port, other);
+    let column = other.xd as usize;
+    let c = conflict::conflict_of(t.sx, t.sy, columns[column], own, port, other);
     window::keep_rival(rivals, n, other, c)
 }
 
 // The rivals of flow f, found once; they are as many as is answered.
-fn find_rivals(file: &[u8], t: Trailer, f: u32, rivals: &mut [u32]) -> usize
+fn find_rivals(file: &[u8], t: Trailer, columns: &[u32], f: u32, rivals: &mut [u32]) -> usize
     requires { ⌜ (FlowInFile (now file) t f) × (rivalWords * t .count ≤ length (now rivals)) ⌝ }
+    requires { ⌜ TurningIn (planOf (now file)) (now columns) ⌝ }
     ensures { λ r. ⌜ RivalsAmong (planOf (now (file .entry))) f (t .count) (now (rivals .exit)) r ⌝ }
 {
     let own = flow_at(file, t, f);
@@ -58,39 +76,42 @@ fn find_rivals(file: &[u8], t: Trailer, f: u32, rivals: &mut [u32]) -> usize
     let count = t.count;
     let mut n = 0usize;
     for g in 0..count {
-        n = meet(file, t, own, port, f, g, rivals, n);
+        n = meet(file, t, columns, own, port, f, g, rivals, n);
     }
     n
 }
 
 // The window T of flow f of an accepted file, with room for its rivals.
-fn window_in(file: &[u8], t: Trailer, f: u32, rivals: &mut [u32]) -> Window
+fn window_in(file: &[u8], t: Trailer, columns: &[u32], f: u32, rivals: &mut [u32]) -> Window
     requires { ⌜ (FlowInFile (now file) t f) × (rivalWords * t .count ≤ length (now rivals)) ⌝ }
+    requires { ⌜ TurningIn (planOf (now file)) (now columns) ⌝ }
     ensures { λ r. ⌜ r ≡ windowOf (planOf (now (file .entry))) f ⌝ }
 {
-    let n = find_rivals(file, t, f, rivals);
+    let n = find_rivals(file, t, columns, f, rivals);
     window::least_window(rivals, n)
 }
 
-// The window T of flow f of an accepted file. Few flows need little room.
-pub fn window_of(file: &[u8], t: Trailer, f: u32) -> Window
-    requires { ⌜ FlowInFile (now file) t f ⌝ }
+// The window T of flow f of an accepted file, by its turning rows. Few flows need little room.
+pub fn window_of(file: &[u8], t: Trailer, columns: &[u32], f: u32) -> Window
+    requires { ⌜ (FlowInFile (now file) t f) × (TurningIn (planOf (now file)) (now columns)) ⌝ }
     ensures { λ r. ⌜ r ≡ windowOf (planOf (now (file .entry))) f ⌝ }
 {
     if t.count <= 64 {
         let mut few = [0u32; window::RIVAL_WORDS * 64];
-        return window_in(file, t, f, &mut few);
+        return window_in(file, t, columns, f, &mut few);
     }
     let mut rivals = [0u32; window::MOST_RIVAL_WORDS];
-    window_in(file, t, f, &mut rivals)
+    window_in(file, t, columns, f, &mut rivals)
 }
 
-// The flight bound of flow f of an accepted file.
-pub fn flight_bound_of(file: &[u8], t: Trailer, f: u32) -> u32
-    requires { ⌜ FlowInFile (now file) t f ⌝ }
+// The flight bound of flow f of an accepted file, by its turning rows.
+pub fn flight_bound_of(file: &[u8], t: Trailer, columns: &[u32], f: u32) -> u32
+    requires { ⌜ (FlowInFile (now file) t f) × (TurningIn (planOf (now file)) (now columns)) ⌝ }
     ensures { λ r. ⌜ r ≡ flightBoundOf (planOf (now (file .entry))) f ⌝ }
 {
-    flight::flight_bound(t.sx, t.sy, flow_at(file, t, f))
+    let flow = flow_at(file, t, f);
+    let column = flow.xd as usize;
+    flight::flight_bound(t.sx, t.sy, columns[column], flow)
 }
 
 // 0 for a flow of an accepted file, or the refusal.
@@ -118,13 +139,17 @@ pub fn window(file: &[u8], f: u32) -> Answer
 {
     match ask(file, f) {
         Answer::Refused { number, place } => Answer::Refused { number, place },
-        Answer::Done(_) => match window_of(file, file::trailer_of(file), f) {
-            Window::At(least) => Answer::Done(least),
-            Window::Nothing => Answer::Refused {
-                number: 14,
-                place: f,
-            },
-        },
+        Answer::Done(_) => {
+            let t = file::trailer_of(file);
+            let columns = turning_rows(file, t);
+            match window_of(file, t, &columns, f) {
+                Window::At(least) => Answer::Done(least),
+                Window::Nothing => Answer::Refused {
+                    number: 14,
+                    place: f,
+                },
+            }
+        }
     }
 }
 
@@ -134,6 +159,10 @@ pub fn flight_bound(file: &[u8], f: u32) -> Answer
 {
     match ask(file, f) {
         Answer::Refused { number, place } => Answer::Refused { number, place },
-        Answer::Done(_) => Answer::Done(flight_bound_of(file, file::trailer_of(file), f)),
+        Answer::Done(_) => {
+            let t = file::trailer_of(file);
+            let columns = turning_rows(file, t);
+            Answer::Done(flight_bound_of(file, t, &columns, f))
+        }
     }
 }

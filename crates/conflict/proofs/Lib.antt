@@ -1,2 +1,3 @@
 -- The laws of conflicts.
 pub mod Spread
+pub mod Told

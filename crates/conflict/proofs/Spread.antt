@@ -1,23 +1,21 @@
--- Laws of spreads: a spread is small. Rests on specs/Conflict and the laws of offsets.
+-- Laws of spreads: a spread is small. Rests on specs/Conflict and the laws of turning rows and offsets.
 use mathlib.Core.Bool.{Bool, true, false, cond, _&&_}
 use mathlib.Core.Logic.{inl, inr}
-use Prim.Native.Nat.{ℕ, _-_, _*_, _≤_}
+use Prim.Native.Nat.{ℕ, _-_, _*_, _≤_, _<_}
 use native.Mathlib.Nat.{mul-le-mul}
 use native.Mathlib.Omega.{arith}
 use lib.Dec.{ltb, leb, eqb}
 use Rattle.laws.proofs.Cases.{test}
 use Rattle.torus.proofs.Axis.{offset-below}
 use Rattle.flow.specs.declared.Flow.{Flow}
-use Rattle.flow.specs.Plan.{mostSize}
+use Rattle.flow.specs.Plan.{Plan, mostSize}
 use Rattle.flow.specs.Offsets.{ΔX, ΔY, sameClient}
+use Rattle.turning.specs.Turning.{isTurning}
+use Rattle.turning.proofs.Turning.{south-most}
 use Rattle.conflict.specs.declared.Conflict.{Conflict}
 use Rattle.conflict.specs.declared.Conflict.the-variants.{Free, Spread}
-use Rattle.conflict.specs.Conflict.{rowsTo, columnsTo, conflict, conflictEast, conflictSouth}
+use Rattle.conflict.specs.Conflict.{rowsTo, columnsTo, laps, conflictEast, conflictSouth, conflictBy, conflict}
 use Rattle.conflict.specs.Inner.{Pair, mostSpread}
-
--- r rows of the torus, a lap round the row for each
-pub laps-most : (r sx : ℕ) → r ≤ mostSize → sx ≤ mostSize → r * sx ≤ mostSpread
-laps-most r sx h l = mul-le-mul h l
 
 -- the conflict names no larger spread
 pub data SpreadMost : Conflict → Type 0 where
@@ -29,23 +27,33 @@ either true h k = h
 either false h k = k
 
 module _ (sx sy : ℕ) (f g : Flow) (h : Pair sx sy f g) where
-  pub rows-most : rowsTo sy f g ≤ mostSize
-  rows-most = omega (arith, offset-below sy (g .ys) (f .ys) (h .other .ys-on) (h .own .ys-on), h .sy-most)
+  pub rows-below : rowsTo sy f g < sy
+  rows-below = offset-below sy (g .ys) (f .ys) (h .other .ys-on) (h .own .ys-on)
 
-  east-most : SpreadMost (conflictEast sx sy f g)
-  unfolding conflictEast
-  east-most =
-      either (eqb (rowsTo sy f g) 0)
-      (either (leb 1 (columnsTo sx f g) && leb (columnsTo sx f g) (ΔX sx g)) (some {j = 0} (omega arith)) none)
-      (either (leb (rowsTo sy f g) (ΔY sy g)) (some (laps-most (rowsTo sy f g - 1) sx (omega (arith, rows-most)) (h .sx-most))) none)
+  module _ (turns : ℕ → Bool) where
+    -- at most all rows of the torus, a lap round the row for each
+    pub laps-most : (r : ℕ) → r ≤ sy → laps sx sy turns g r ≤ mostSpread
+    laps-most r few = mul-le-mul {n₂ = mostSize} {m₂ = mostSize} (omega (arith, south-most sy turns (g .ys) r, h .sy-most)) (h .sx-most)
 
-  south-most : SpreadMost (conflictSouth sx sy f g)
-  unfolding conflictSouth
-  south-most =
-      either (eqb (g .xd) (f .xs) && leb (rowsTo sy f g) (ΔY sy g)) (some (laps-most (rowsTo sy f g) sx rows-most (h .sx-most))) none
+    east-most : SpreadMost (conflictEast sx sy turns f g)
+    unfolding conflictEast
+    east-most =
+        either (eqb (rowsTo sy f g) 0)
+        (either (leb 1 (columnsTo sx f g) && leb (columnsTo sx f g) (ΔX sx g)) (some {j = 0} (omega arith)) none)
+        (either (leb (rowsTo sy f g) (ΔY sy g) && turns (f .ys)) (some (laps-most (rowsTo sy f g - 1) (omega (arith, rows-below)))) none)
 
-  pub spread-most : SpreadMost (conflict sx sy f g)
-  unfolding conflict
-  spread-most =
-      either (sameClient f g) (some {j = 0} (omega arith))
-      (elim (test (ltb 0 (ΔX sx f))) [ inl east ↦ rw east east-most | inr south ↦ rw south south-most ])
+    south-spread : SpreadMost (conflictSouth sx sy turns f g)
+    unfolding conflictSouth
+    south-spread =
+        either (eqb (g .xd) (f .xs) && leb (rowsTo sy f g) (ΔY sy g)) (some (laps-most (rowsTo sy f g) (omega (arith, rows-below)))) none
+
+    pub spread-most : SpreadMost (conflictBy sx sy turns f g)
+    unfolding conflictBy
+    spread-most =
+        either (sameClient f g) (some {j = 0} (omega arith))
+        (elim (test (ltb 0 (ΔX sx f))) [ inl east ↦ rw east east-most | inr south ↦ rw south south-spread ])
+
+-- the spread of two flows of a plan is small
+pub conflict-most : (p : Plan) (f g : Flow) → Pair (p .sx) (p .sy) f g → SpreadMost (conflict p f g)
+unfolding conflict
+conflict-most p f g h = spread-most (p .sx) (p .sy) f g h (isTurning p (g .xd))

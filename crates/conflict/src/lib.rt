@@ -1,9 +1,11 @@
-// How two flows conflict at the source of one of them. Rests on flow.
+// How two flows conflict at the source of one of them. Rests on flow and turning.
 use flow::Flow;
 use flow::Port;
 ghost use mathlib.Core.Path.{_≡_};
+ghost use Prim.Native.Nat.{_^_, _<_};
+ghost use Rattle.laws.specs.Bits.{isSet};
 ghost use Rattle.flow.specs.Offsets.{portOf};
-ghost use Rattle.conflict.specs.Conflict.{conflict, conflictEast, conflictSouth};
+ghost use Rattle.conflict.specs.Conflict.{conflictBy, conflictEast, conflictSouth};
 ghost use Rattle.conflict.specs.Inner.{Pair};
 
 // How a flow meets another at its source: not at all, or in conflict with the spread J.
@@ -12,10 +14,10 @@ pub enum Conflict {
     Spread(u32),
 }
 
-// f's port is E and g's client is another.
-fn conflict_east(sx: u32, sy: u32, f: Flow, g: Flow) -> Conflict
-    requires { ⌜ Pair sx sy f g ⌝ }
-    ensures { λ r. ⌜ r ≡ conflictEast sx sy f g ⌝ }
+// f's port is E and g's client is another. The word has the rows that turn for g's destination column.
+fn conflict_east(sx: u32, sy: u32, word: u32, f: Flow, g: Flow) -> Conflict
+    requires { ⌜ (Pair sx sy f g) × (word < 2 ^ sy) ⌝ }
+    ensures { λ r. ⌜ r ≡ conflictEast sx sy (isSet word) f g ⌝ }
 {
     let rows = torus::offset(sy, g.ys, f.ys);
     if rows == 0 {
@@ -28,16 +30,19 @@ fn conflict_east(sx: u32, sy: u32, f: Flow, g: Flow) -> Conflict
         }
         return Conflict::Spread(0);
     }
+    if !turning::has_row(word, f.ys) {
+        return Conflict::Free;
+    }
     if g.offset_y(sy) < rows {
         return Conflict::Free;
     }
-    Conflict::Spread((rows - 1) * sx)
+    Conflict::Spread(turning::rows_south(sy, word, g.ys, rows - 1) * sx)
 }
 
 // f's port is S and g's client is another.
-fn conflict_south(sx: u32, sy: u32, f: Flow, g: Flow) -> Conflict
-    requires { ⌜ Pair sx sy f g ⌝ }
-    ensures { λ r. ⌜ r ≡ conflictSouth sx sy f g ⌝ }
+fn conflict_south(sx: u32, sy: u32, word: u32, f: Flow, g: Flow) -> Conflict
+    requires { ⌜ (Pair sx sy f g) × (word < 2 ^ sy) ⌝ }
+    ensures { λ r. ⌜ r ≡ conflictSouth sx sy (isSet word) f g ⌝ }
 {
     if g.xd != f.xs {
         return Conflict::Free;
@@ -47,20 +52,20 @@ fn conflict_south(sx: u32, sy: u32, f: Flow, g: Flow) -> Conflict
     if dy < rows {
         return Conflict::Free;
     }
-    Conflict::Spread(rows * sx)
+    Conflict::Spread(turning::rows_south(sy, word, g.ys, rows) * sx)
 }
 
-// How g, a flow other than f, conflicts with f at f's source, by f's port.
-pub fn conflict_of(sx: u32, sy: u32, f: Flow, port: Port, g: Flow) -> Conflict
-    requires { ⌜ Pair sx sy f g ⌝ }
+// How g, a flow other than f, conflicts with f at f's source, by f's port and the rows that turn for g's destination column.
+pub fn conflict_of(sx: u32, sy: u32, word: u32, f: Flow, port: Port, g: Flow) -> Conflict
+    requires { ⌜ (Pair sx sy f g) × (word < 2 ^ sy) ⌝ }
     requires { ⌜ port ≡ portOf sx f ⌝ }
-    ensures { λ r. ⌜ r ≡ conflict sx sy f g ⌝ }
+    ensures { λ r. ⌜ r ≡ conflictBy sx sy (isSet word) f g ⌝ }
 {
     if f.same_client(g) {
         return Conflict::Spread(0);
     }
     match port {
-        Port::East => conflict_east(sx, sy, f, g),
-        Port::South => conflict_south(sx, sy, f, g),
+        Port::East => conflict_east(sx, sy, word, f, g),
+        Port::South => conflict_south(sx, sy, word, f, g),
     }
 }

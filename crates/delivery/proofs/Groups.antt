@@ -17,17 +17,12 @@ use Rattle.flow.specs.Offsets.{ΔY}
 use Rattle.flow.specs.Plan.{Plan, flowAt, mostSize}
 use Rattle.flow.specs.Ranges.{FlowOk}
 use Rattle.flow.specs.Limits.{exitSize}
-use Rattle.flight.specs.Flight.{travel, flight, flightOf}
-use Rattle.flight.proofs.Flight.{flight-bounded, mostFlight, flight-most}
+use Rattle.flight.specs.Flight.{travel, flight}
 use Rattle.router.specs.Delivery.{Delivery, deliveryWith, wordsOf}
 use Rattle.router.proofs.Delivery.{words-length}
 use Rattle.state.specs.Read.{sxIn, syIn, countIn, planIn, stateOf}
 use Rattle.state.proofs.View.{view-count}
 use Rattle.delivery.specs.Groups.{groupAt, groupsOf, impossible, strange}
-
--- a flow's flight with few deflections is short
-pub flies-most : (sx sy : ℕ) (f : Flow) (D : ℕ) → (FlowOk sx sy f) × ((sx ≤ mostSize) × (sy ≤ mostSize)) → D ≤ ΔY sy f → flightOf sx sy f D ≤ mostFlight
-flies-most sx sy f D ok few = omega (arith, flight-most sx sy f (ok .0) (ok .1 .0) (ok .1 .1), flight-bounded sx sy f D few)
 
 -- two more on both sides
 eqb-two : (m n : ℕ) → eqb (m + 2) (n + 2) ≡ eqb m n

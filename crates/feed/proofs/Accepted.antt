@@ -14,6 +14,7 @@ use Rattle.laws.proofs.Cases.{passed, and-true}
 use Rattle.laws.proofs.Count.{none-below}
 use Rattle.flow.specs.Plan.{Plan}
 use Rattle.flow.specs.Limits.{exitSize}
+use Rattle.flight.proofs.Flight.{flight-most}
 use Rattle.plan.specs.declared.Answer.{Answer}
 use Rattle.plan.specs.declared.Answer.the-variants.{Done}
 use Rattle.plan.specs.Refusals.{answerBy}
@@ -31,7 +32,7 @@ use Rattle.recent.specs.Recent.{mostKept}
 use Rattle.delivery.specs.Groups.{groupAt, groupsOf, strange}
 use Rattle.feed.specs.Feed.{fedAll, feedNumber, feedOn}
 use Rattle.feed.specs.Inner.{Keepable, Feedable, fedFirst, firstNumber, callNumber, groupsFed}
-use Rattle.delivery.proofs.Groups.{Genuine, known-genuine, flies-most}
+use Rattle.delivery.proofs.Groups.{Genuine, known-genuine}
 use Rattle.feed.proofs.Fed.{fed-groups}
 
 -- what a number of 0 leaves
@@ -95,8 +96,8 @@ module _ (words deliveries : List ℕ) (last : ℕ) where
         known-genuine (planIn words) d (none-below (strange (planIn words)) (groupAt deliveries) _ (goes .known) i h) in
         let below : d .flow < countIn words = rw (view-count words) at (real .flow-below) in
         let fits = formed .header in
-        let short = flies-most (sxIn words) (syIn words) _ (d .D)
-        (flow-ok words formed (d .flow) below, (fits .sx-ok .most, fits .sy-ok .most)) (real .few) in (
+        let short = flight-most (sxIn words) (syIn words) _ (d .D) (flow-ok words formed (d .flow) below) (fits .sx-ok .most) (fits .sy-ok .most)
+        (real .few) in (
           record { has = omega arith; ordered = omega (arith, real .time); short = omega (arith, real .time, short); some = goes .some; few = goes .few },
           omega (arith, real .flow-below, goes .enough),
         )

@@ -1,7 +1,9 @@
--- The flight of a packet and its bound (01, One cycle; Windows).
+-- The flight of a packet and its bound (01, One cycle; Windows; 02, U8).
 use Prim.Native.Nat.{ℕ, _+_, _-_, _*_}
 use Rattle.flow.specs.declared.Flow.{Flow}
 use Rattle.flow.specs.Offsets.{ΔX, ΔY}
+use Rattle.flow.specs.Plan.{Plan}
+use Rattle.turning.specs.Turning.{turningRows}
 
 -- the cycles from entry to exit with D deflections: ΔX + ΔY + D×Sx
 abbrev pub travel : ℕ → ℕ → Flow → ℕ → ℕ
@@ -15,10 +17,11 @@ flight entry exit = exit - entry + 2
 abbrev pub flightOf : ℕ → ℕ → Flow → ℕ → ℕ
 flightOf sx sy f D = travel sx sy f D + 2
 
--- the most deflections of a flow's packet
-abbrev pub mostDeflections : ℕ → ℕ → Flow → ℕ
-mostDeflections sx sy f = ΔY sy f
+-- the most deflections of a flow's packet in a run from reset: "the number of turning rows among the ΔY rows south of the source, for
+-- destination column xd"
+abbrev pub mostDeflections : Plan → Flow → ℕ
+mostDeflections p f = turningRows p (f .xd) (f .ys) (ΔY (p .sy) f)
 
--- flight bound: ΔX + ΔY + ΔY×Sx + 2
-abbrev pub flightBound : ℕ → ℕ → Flow → ℕ
-flightBound sx sy f = flightOf sx sy f (mostDeflections sx sy f)
+-- "Flight bounds use that count": ΔX + ΔY + D×Sx + 2 with the most deflections for D
+abbrev pub flightBound : Plan → Flow → ℕ
+flightBound p f = flightOf (p .sx) (p .sy) f (mostDeflections p f)

@@ -49,7 +49,7 @@ row f flow port window flight =
 unfoldable pub line : Plan → ℕ → List ℕ
 line p f =
     let flow = flowAt p f in
-    row f flow (portOf (p .sx) flow) (windowOf p f) (flightBound (p .sx) (p .sy) flow)
+    row f flow (portOf (p .sx) flow) (windowOf p f) (flightBound p flow)
 
 -- "flow port window flight wait"
 abbrev pub header : List ℕ

@@ -10,6 +10,7 @@ ghost use lib.ListN.{length};
 ghost use Rattle.laws.specs.Count.{joinBelow};
 ghost use Rattle.laws.specs.Written.{Wrote};
 ghost use Rattle.file.specs.Layout.{planOf};
+ghost use Rattle.turning.specs.Columns.{TurningIn};
 ghost use Rattle.window.specs.Window.{loneWait};
 ghost use Rattle.bounds.specs.Inner.{Opened, FlowInFile};
 ghost use Rattle.table.specs.Decimal.{decimal};
@@ -119,15 +120,16 @@ fn put_row(
     put_byte(out, e, 10)
 }
 
-// The line of flow f of an accepted file.
-fn put_line(file: &[u8], t: Trailer, f: u32, out: &mut [u8], at: usize) -> usize
+// The line of flow f of an accepted file, by its turning rows.
+fn put_line(file: &[u8], t: Trailer, columns: &[u32], f: u32, out: &mut [u8], at: usize) -> usize
     requires { ⌜ (FlowInFile (now file) t f) × (at + mostLine ≤ length (now out)) ⌝ }
+    requires { ⌜ TurningIn (planOf (now file)) (now columns) ⌝ }
     ensures { λ r. ⌜ Wrote (now (out .entry)) at (line (planOf (now (file .entry))) f) r (now (out .exit)) ⌝ }
     ensures { λ r. ⌜ r ≤ at + mostLine ⌝ }
 {
     let flow = bounds::flow_at(file, t, f);
-    let window = bounds::window_of(file, t, f);
-    let flight = bounds::flight_bound_of(file, t, f);
+    let window = bounds::window_of(file, t, columns, f);
+    let flight = bounds::flight_bound_of(file, t, columns, f);
     let port = flow.port(t.sx);
     put_row(out, at, f, flow, port, window, flight)
 }
@@ -143,16 +145,17 @@ fn put_refused(out: &mut [u8], at: usize, number: u32, place: u32) -> usize
     put_byte(out, c, 10)
 }
 
-// The lines of all flows of an accepted file.
+// The lines of all flows of an accepted file; its turning rows are found once.
 fn put_lines(file: &[u8], t: Trailer, out: &mut [u8], at: usize) -> usize
     requires { ⌜ (Opened (now file) t) × (at + mostLine * t .count ≤ length (now out)) ⌝ }
     ensures { λ r. ⌜ Wrote (now (out .entry)) at (joinBelow (t .count) (line (planOf (now (file .entry))))) r (now (out .exit)) ⌝ }
     ensures { λ r. ⌜ r ≤ at + mostLine * t .count ⌝ }
 {
+    let columns = bounds::turning_rows(file, t);
     let count = t.count;
     let mut next = at;
     for f in 0..count {
-        next = put_line(file, t, f, out, next);
+        next = put_line(file, t, &columns, f, out, next);
     }
     next
 }

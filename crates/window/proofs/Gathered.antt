@@ -14,7 +14,7 @@ use Rattle.conflict.specs.declared.Conflict.the-variants.{Free, Spread}
 use Rattle.conflict.specs.Conflict.{conflict}
 use Rattle.window.specs.Window.{share, shareOf, interference, leastFrom, mostWindow, windowOf}
 use Rattle.window.specs.Rivals.{rivalWords, demandOf, RivalsAmong, Gathered, keepRival}
-use Rattle.conflict.proofs.Spread.{SpreadMost, none, some, spread-most}
+use Rattle.conflict.proofs.Spread.{SpreadMost, none, some, conflict-most}
 use Rattle.window.proofs.Rivals.{demand-none, with-demand, with-ok}
 
 -- no flows, no rivals
@@ -47,11 +47,11 @@ module _ (p : Plan) (f m : ℕ) (l : List ℕ) (n : ℕ) (h : RivalsAmong p f m 
 
   module _ (ok : PlanOk p) (in-plan : f < length (p .flows)) (below : m < length (p .flows)) (other : m ≡ f → ⊥) where
     next-sum : (t : ℕ) → sumBelow (m + 1) (shareOf p f t)
-        ≡ demandOf l n t + share (flowAt p m) t (conflict (p .sx) (p .sy) (flowAt p f) (flowAt p m))
+        ≡ demandOf l n t + share (flowAt p m) t (conflict p (flowAt p f) (flowAt p m))
     unfolding shareOf
     next-sum t = sum-more (shareOf p f t) m ∙ rw (h .sum t, ne-eqb m f other)
 
-    among-by : (c : Conflict) → conflict (p .sx) (p .sy) (flowAt p f) (flowAt p m) ≡ c → SpreadMost c
+    among-by : (c : Conflict) → conflict p (flowAt p f) (flowAt p m) ≡ c → SpreadMost c
         → let k = keepRival l n (flowAt p m) c in RivalsAmong p f (m + 1) (k .words) (k .count)
     unfolding share
     among-by Free e none =
@@ -69,10 +69,10 @@ module _ (p : Plan) (f m : ℕ) (l : List ℕ) (n : ℕ) (h : RivalsAmong p f m 
         }
 
     -- flow m with its conflict
-    pub among-more : (k : Gathered) → k ≡ keepRival l n (flowAt p m) (conflict (p .sx) (p .sy) (flowAt p f) (flowAt p m))
+    pub among-more : (k : Gathered) → k ≡ keepRival l n (flowAt p m) (conflict p (flowAt p f) (flowAt p m))
         → RivalsAmong p f (m + 1) (k .words) (k .count)
     among-more k e =
         rw e
         (among-by _ refl
-        (spread-most (p .sx) (p .sy) (flowAt p f) (flowAt p m)
+        (conflict-most p (flowAt p f) (flowAt p m)
         (record { sx-most = ok .sx-most; sy-most = ok .sy-most; own = ok .flow-ok f in-plan; other = ok .flow-ok m below })))

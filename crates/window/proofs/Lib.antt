@@ -4,3 +4,4 @@ pub mod Windows
 pub mod Rivals
 pub mod Rates
 pub mod Gathered
+pub mod Before

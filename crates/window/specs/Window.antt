@@ -20,7 +20,7 @@ share g t (Spread J) = curve (g .burst) (g .period) (t - 1 + J)
 
 -- what flow number g adds to I(t) of flow number f; a flow doesn't conflict with itself
 unfoldable pub shareOf : Plan → ℕ → ℕ → ℕ → ℕ
-shareOf p f t g = cond (eqb g f) 0 (share (flowAt p g) t (conflict (p .sx) (p .sy) (flowAt p f) (flowAt p g)))
+shareOf p f t g = cond (eqb g f) 0 (share (flowAt p g) t (conflict p (flowAt p f) (flowAt p g)))
 
 -- I(t) sums over the flows that conflict with f
 unfoldable pub interference : Plan → ℕ → ℕ → ℕ

@@ -9,7 +9,7 @@ use Rattle.bounds.proofs.window_in.Tie as tie
 returns : tie.Need-returns
 returns c =
     let found = c .before .before .before .before in
-    let o = found .before .before .before .before .pre .0 .opened in
+    let o = found .before .before .before .before .before .pre .0 .0 .opened in
     c .least-window .ensures ∙ among-all _ _ _ _ (rw (opened-count _ _ o) (found .find-rivals .ensures))
 
 pub window-in-spec : {M : Type 1} → statement M

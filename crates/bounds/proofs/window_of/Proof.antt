@@ -7,8 +7,8 @@ use Rattle.bounds.proofs.window_of.Tie as tie
 
 window-in-requires-2 : tie.Need-window-in-requires-2
 window-in-requires-2 c κs =
-    let p = c .before .before .before .before .pre in
-    (p, omega (arith, opened-few _ _ (p .opened)))
+    let p = c .before .before .before .before .before .pre in
+    ((p .0, omega (arith, opened-few _ _ (p .0 .opened))), p .1)
 
 pub window-of-spec : {M : Type 1} → statement M
 window-of-spec =

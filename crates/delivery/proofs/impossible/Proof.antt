@@ -3,9 +3,9 @@ use Prim.Native.Nat.{_+_, _*_, _≤_}
 use native.Mathlib.Omega.{arith}
 use borrow.Author.Needs.{needs}
 use borrow.Author.Tests.{lt-ltb, le-ltb, lt-leb}
-use Rattle.flight.proofs.Flight.{mostFlight}
+use Rattle.flight.proofs.Flight.{mostFlight, flight-most}
 use Rattle.delivery.specs.Groups.{impossible}
-use Rattle.delivery.proofs.Groups.{flies-most, by-travel}
+use Rattle.delivery.proofs.Groups.{by-travel}
 use Rattle.delivery.proofs.impossible.Statement.{statement}
 use Rattle.delivery.proofs.impossible.Tie as tie
 
@@ -24,8 +24,9 @@ short : (c : tie.After-offset-x) → let first = c .before .before .before in
 short c =
     let first = c .before .before .before in
     let a = first .before .args in
+    let fits = first .before .pre in
     rw (first .offset-y .ensures, c .offset-x .ensures)
-    (flies-most (a .sx) (a .sy) (a .f) (a .d) (first .before .pre) (rw (← (first .offset-y .ensures)) (c .before .before .if1 .left)))
+    (flight-most (a .sx) (a .sy) (a .f) (a .d) (fits .0) (fits .1 .0) (fits .1 .1) (rw (← (first .offset-y .ensures)) (c .before .before .if1 .left)))
 
 add-result : tie.Need-add-result
 add-result c = omega (arith, short c)
@@ -40,6 +41,7 @@ returns-3 : tie.Need-returns-3
 returns-3 c =
     let first = c .before .before .before in
     let a = first .before .args in
+    let fits = first .before .pre in
     rw (first .offset-y .ensures, c .offset-x .ensures)
     (by-travel (a .sx) (a .sy) (a .f) (a .entry) (a .exit) (a .d) (rw (← (first .offset-y .ensures)) (c .before .before .if1 .left)) (c .before .if2 .left))
 

@@ -3,37 +3,33 @@ use borrow.Author.Needs.{needs}
 use mathlib.Core.Path.{_≡_, sym, _∙_}
 use native.Mathlib.Omega.{arith}
 use Rattle.flow.specs.Plan.{flowAt}
-use Rattle.flow.specs.Ranges.{FlowOk, PlanOk}
+use Rattle.flow.specs.Ranges.{FlowOk}
 use Rattle.file.specs.Layout.{planOf}
 use Rattle.plan.proofs.Ranges.{Bytes}
-use Rattle.bounds.proofs.Opened.{opened-ok, opened-count, opened-sx}
+use Rattle.bounds.proofs.Opened.{opened-ok, opened-sx, flow-fits}
 use Rattle.table.specs.Table.{row, line}
 use Rattle.table.proofs.Rows.{window-fits}
 use Rattle.table.proofs.put_line.Statement.{statement}
 use Rattle.table.proofs.put_line.Tie as tie
 
--- the plan's numbers are in range
-plan-fits : (c : tie.After-shared-slice-known) → PlanOk (planOf (c .before .args .file .now))
-plan-fits c =
-    let bytes : Bytes (c .before .args .file .now) = λ i. omega (arith, c .shared-slice-known .given i) in
-    opened-ok _ _ (c .before .pre .0 .opened) bytes
+bytes : (c : tie.After-shared-slice-known) → Bytes (c .before .args .file .now)
+bytes c i = omega (arith, c .shared-slice-known .given i)
 
 -- the flow is one of the plan's
 in-range : (c : tie.After-shared-slice-known) → let p = planOf (c .before .args .file .now) in FlowOk (p .sx) (p .sy) (flowAt p (c .before .args .f))
-in-range c =
-    let k = c .before .pre .0 in
-    plan-fits c .flow-ok _ (rw (opened-count _ _ (k .opened)) (k .below))
+in-range c = flow-fits _ _ _ (c .before .pre .0 .0) (bytes c)
 
 port-requires : tie.Need-port-requires
 port-requires c κs =
-    let s = c .before .before .before .before in
+    let s = c .before .before .before .before .before in
     let flow = in-range s in
-    rw (c .before .before .flow-at .ensures, ← (opened-sx _ _ (s .before .pre .0 .opened))) ((flow .xs-on, flow .xd-on), plan-fits s .sx-most)
+    let o = s .before .pre .0 .0 .opened in
+    rw (c .before .before .flow-at .ensures, ← (opened-sx _ _ o)) ((flow .xs-on, flow .xd-on), opened-ok _ _ o (bytes s) .sx-most)
 
 put-row-requires : tie.Need-put-row-requires
 put-row-requires c κs =
     let found = c .before .before .before in
-    let flow = in-range (found .before .before .before) in (
+    let flow = in-range (found .before .before .before .before) in (
       record {
         period-least = rw (found .before .flow-at .ensures) (flow .period-least);
         period-most = rw (found .before .flow-at .ensures) (flow .period-most);
@@ -43,7 +39,7 @@ put-row-requires c κs =
     )
 
 -- the row is the plan's line
-same : (c : tie.After-port) → let w = c .before .before in let a = w .before .before .before .before .args in
+same : (c : tie.After-port) → let w = c .before .before in let a = w .before .before .before .before .before .args in
     row (a .f) (w .before .flow-at .result) (c .port .result) (w .window-of .result) (c .before .flight-bound-of .result)
     ≡ line (planOf (a .file .now)) (a .f)
 unfolding line
@@ -54,7 +50,7 @@ same c =
       c .before .flight-bound-of .ensures,
       w .window-of .ensures,
       w .before .flow-at .ensures,
-      ← (opened-sx _ _ (w .before .before .before .before .pre .0 .opened)),
+      ← (opened-sx _ _ (w .before .before .before .before .before .pre .0 .0 .opened)),
     )
 
 returns : tie.Need-returns
