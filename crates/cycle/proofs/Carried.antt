@@ -16,7 +16,7 @@ use Rattle.place.specs.Place.{Place, W, N, columnOf, rowOf}
 use Rattle.place.specs.InPlace.{inPlace}
 use Rattle.router.specs.Rule.{Seen, deflects, Way, sameWay, wayFrom, heldIn, takes, isFlow, entrant, wayIn}
 use Rattle.router.proofs.Rule.{way-same, takes-own}
-use Rattle.router.proofs.Path.{Arrives, step-placed, step-entry}
+use Rattle.router.proofs.Path.{everyRow, every-rising, every-bends, Arrives, step-placed, step-entry}
 use Rattle.router.proofs.InPlace.{in-place-path}
 use Rattle.router.proofs.Entrant.{Found, no-entrant, has-entrant, found, enters-at}
 use Rattle.state.specs.declared.Register.{Register}
@@ -35,7 +35,7 @@ module _ (s : State) where
     pub flow-below : flow < length (p .flows)
     pub serial-least : 1 ≤ serial
     pub serial-most : serial ≤ (nextTally s flow) .entered
-    pub arrives : Arrives p (flowAt p flow) (s .clock) D entry x y o
+    pub arrives : Arrives p (flowAt p flow) everyRow (s .clock) D entry x y o
 
   -- such a packet, or none
   abbrev pub Carries : (x y : ℕ) → Way → Register → Type 0
@@ -91,8 +91,8 @@ module _ (s : State) where
           flow-below = h .flow-below;
           serial-least = h .serial-least;
           serial-most = omega (arith, h .serial-most);
-          arrives = subst (Arrives p φ (s .clock) (D + one (deflects v at)) entry (columnOf at) (rowOf at)) way
-              (step-placed p φ fits v (s .clock) D entry at path .sound);
+          arrives = subst (Arrives p φ everyRow (s .clock) (D + one (deflects v at)) entry (columnOf at) (rowOf at)) way
+              (step-placed p φ everyRow fits every-rising v (s .clock) D entry at path (every-bends p φ v (s .clock) D entry at path) .sound);
         })
 
     -- a client's packet comes in
@@ -113,7 +113,7 @@ module _ (s : State) where
                     flow-below = h .below;
                     serial-least = omega arith;
                     serial-most = rw comes (omega arith);
-                    arrives = rw (h .column, h .row, ← (way-same (wayIn p f) o way)) (step-entry p (flowAt p f) fits (s .clock) .sound);
+                    arrives = rw (h .column, h .row, ← (way-same (wayIn p f) o way)) (step-entry p (flowAt p f) everyRow fits (s .clock) .sound);
                   })
               | inr other ↦ rw other tt
             ]

@@ -24,7 +24,7 @@ use Rattle.router.specs.Links.{Output, feeder}
 use Rattle.router.specs.Rule.{via}
 use Rattle.router.specs.Delivery.{wordsOf}
 use Rattle.router.proofs.Links.{feeder-on, reach-feeder}
-use Rattle.router.proofs.Path.{OnPath, entered-before}
+use Rattle.router.proofs.Path.{everyRow, OnPath, entered-before}
 use Rattle.router.proofs.InPlace.{path-in-place}
 use Rattle.state.specs.declared.Register.{Register}
 use Rattle.state.specs.declared.Register.the-variants.{Empty, Packet}
@@ -84,14 +84,14 @@ module _ (s : State) (ok : StateOk s) where
       of Empty h = refl
       of (Packet flow serial entry deflections) h =
           let fits = ok .plan-ok .flow-ok flow (h .flow-below) in
-          let path = subst (OnPath p (flowAt p flow) (s .clock + 1) deflections entry) (reach-feeder p at column row) (h .arrives) in
+          let path = subst (OnPath p (flowAt p flow) everyRow (s .clock + 1) deflections entry) (reach-feeder p at column row) (h .arrives) in
           let entered = ap (λ (t : Tally). t .entered) (tally-after flow (h .flow-below)) in
           rw (
             lt-ltb flow (length (p .flows)) (h .flow-below),
             le-leb 1 serial (h .serial-least),
             le-leb serial ((tallyAt (stepState s) flow) .entered) (omega (arith, entered, h .serial-most)),
-            lt-ltb entry (s .clock + 1) (entered-before p (flowAt p flow) fits (s .clock + 1) deflections entry at path),
-            path-in-place p (flowAt p flow) fits (s .clock + 1) deflections entry at path,
+            lt-ltb entry (s .clock + 1) (entered-before p (flowAt p flow) everyRow fits (s .clock + 1) deflections entry at path),
+            path-in-place p (flowAt p flow) fits (s .clock + 1) deflections everyRow (λ n. omega arith) entry at path,
           )
 
   -- the state after a cycle
