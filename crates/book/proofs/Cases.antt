@@ -18,6 +18,7 @@ use Rattle.plan.specs.Refusals as Refusals
 use Rattle.plan.specs.Written as Written
 use Rattle.plan.specs.Written.{planBytes}
 use Rattle.window.specs.declared.Window.the-variants.{Nothing}
+use Rattle.turning.specs.Turning as Turning
 use Rattle.conflict.specs.Conflict as Conflict
 use Rattle.window.specs.Window as Window
 use Rattle.window.specs.Window.{windowOf}
@@ -32,8 +33,8 @@ use Rattle.book.specs.Cases.{Case, Says, starred, across, along}
 
 -- a rival in every cycle: I(t) is t
 filled : windowOf (across 1 1) 0 ≡ Nothing
-unfolding Bounded.sumBelow Axis.offset Curve.ceiling Curve.curve Conflict.conflict Conflict.conflictEast Conflict.conflictSouth Window.share
-    Window.shareOf Window.interference
+unfolding Bounded.sumBelow Axis.offset Turning.isTurning Turning.rowsSouth Curve.ceiling Curve.curve Conflict.conflict Conflict.conflictBy
+    Conflict.conflictEast Conflict.conflictSouth Window.share Window.shareOf Window.interference
 filled = window-none (across 1 1) 0 (λ t l m. omega (arith, div-one (t - 1 + 0)))
 
 -- what the window call on the plan's file answers for flow 0 is read off the plan's window
@@ -58,13 +59,13 @@ each (d ∷ cs) all c (there m) = each cs (all .1) c m
 
 rows : AllHold starred
 unfolding Bounded.tabulate Bounded.firstBelow Bounded.sumBelow Axis.offset Axis.next Regulator.afterCount Regulator.afterCycle Links.reach
-    Curve.ceiling Curve.curve Conflict.conflict Conflict.conflictEast Conflict.conflictSouth Window.share Window.shareOf Window.interference
-    Window.leastFrom Window.windowOf Rule.turnsSouth Rule.isOpen Rule.ready Rule.enters holds sent lowest deliveries refusal feed
+    Curve.ceiling Curve.curve Turning.isTurning Turning.rowsSouth Conflict.conflict Conflict.conflictBy Conflict.conflictEast
+    Conflict.conflictSouth Window.share Window.shareOf Window.interference Window.leastFrom Window.windowOf Rule.turnsSouth Rule.isOpen Rule.ready Rule.enters holds sent lowest deliveries refusal feed
     Limits.offerNumber Limits.stepNumber
 rows = (refl, ((refl, refl), ((refl, refl), (refl, ((refl, refl), ((refl, refl), ((refl, refl), windows)))))))
   where
     later : AllHold (drop 12 starred)
-    later = (refl, (refl, (refl, ((refl, refl), (refl, ((refl, refl), tt))))))
+    later = (refl, (refl, (refl, ((refl, refl), (refl, (refl, (refl, (refl, (refl, (refl, (refl, (refl, ((refl, refl), tt)))))))))))))
 
     refused : windowAnswer (planBytes [] (across 1 1)) 0 ≡ Refused 14 0
     refused = reads .1 .1 .0 ∙ ap (windowBy 0) filled

@@ -27,7 +27,7 @@ use Rattle.book.specs.Book.{Book, bucketAt, ofFlow, waitsFor}
 use Rattle.book.specs.Cycle.{seen, view, enters, lowest, moveStage, move, stepped}
 use Rattle.book.proofs.Moves.{goes, sent-waits, sent-entry, Turn, keeps, stays, comes, turn}
 use Rattle.book.proofs.Queue.{goes-count}
-use Rattle.book.proofs.Traced.{Sound, progress, sent-progress, line-ok, moved-progress}
+use Rattle.book.proofs.Traced.{mostBy, Sound, progress, sent-progress, line-ok, moved-progress}
 use Rattle.book.proofs.Held.{held-line}
 use Rattle.book.proofs.Spans.{Lawful}
 use Rattle.book.proofs.Meetings.{meeting, passedBy, passed-yes, passed-stays}
@@ -41,7 +41,7 @@ passed p f s c l = not (eqb (l .flow) f) && passedAt p (flowAt p f) (flowAt p (l
 pub record HasPassed (p : Plan) (f s c : ℕ) (l : Line) : Type 0 where
   pub other : l .flow ≢ f
   pub entered : isWaiting (l .stage) ≡ false
-  pub by-then : passedBy (meeting (p .sx) (p .sy) (flowAt p f) (flowAt p (l .flow))) s c (entryOf (l .stage)) (progress p (flowAt p (l .flow)) (l .stage))
+  pub by-then : passedBy (meeting p (flowAt p f) (flowAt p (l .flow))) s c (entryOf (l .stage)) (progress p (flowAt p (l .flow)) (l .stage))
       ≡ true
 
 pub has-passed : (p : Plan) (f s c : ℕ) (l : Line) → passed p f s c l ≡ true → HasPassed p f s c l
@@ -74,7 +74,7 @@ module _ (p : Plan) (b : Book) (law : Lawful p b) (f : ℕ) where
         before = refl;
         after =
             rw (t .0, t .1, sent-waits p c c (ψ .xs) (ψ .ys) o, sent-entry p c c (ψ .xs) (ψ .ys) o, sent-progress p ψ c c (ψ .xs) (ψ .ys) o)
-            (passed-yes 0 0 0 s (c + 1) c _ (omega arith) (omega arith) (step-entry p ψ okz c .rises));
+            (passed-yes 0 0 0 s (c + 1) c _ (omega arith) (omega arith) (step-entry p ψ (mostBy p ψ) okz c .rises));
       }
   takes-passes s now z okz D (placed e at) h t =
       placed-passes p φ (flowAt p (z .flow)) okz (seen p b (columnOf at) (rowOf at)) s (b .clock) D e now at (t .0) (t .1) (t .2) h
@@ -142,9 +142,9 @@ module _ (p : Plan) (b : Book) (law : Lawful p b) (f : ℕ) where
     where
       step : HasPassed p f s (b .clock) l → Turn p b l → passed p f s (b .clock + 1) (move p b l) ≡ true
       step h (keeps w w′ e g) =
-          let more = moved-progress p b l (line-ok p (law .plan) b (law .traced) l m) (l .D) (l .stage) (law .traced .sound l m) in
+          let more = moved-progress p (law .plan) b (law .traced) l (line-ok p (law .plan) b (law .traced) l m) (l .D) (l .stage) (law .traced .sound l m) in
           rw (ne-eqb (l .flow) f (h .other), w′, e)
-          (passed-stays (meeting (p .sx) (p .sy) φ (flowAt p (l .flow))) s (b .clock) (b .clock + 1) (entryOf (l .stage)) _ _ (omega arith) more (h .by-then))
+          (passed-stays (meeting p φ (flowAt p (l .flow))) s (b .clock) (b .clock + 1) (entryOf (l .stage)) _ _ (omega arith) more (h .by-then))
       step h (stays w w′ g) = absurd (false≢true (sym (h .entered) ∙ w))
       step h (comes w w′ e g) = absurd (false≢true (sym (h .entered) ∙ w))
 

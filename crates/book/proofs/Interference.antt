@@ -47,7 +47,7 @@ module _ (p : Plan) (b : Book) (f s : ℕ) where
 
   -- they entered in a window as long as the spread allows
   of-meeting : s < b .clock → (g : ℕ) → Regulated ((flowAt p g) .burst) ((flowAt p g) .period) (bucketAt b g) (b .clock) (span b g)
-      → (m : Meeting) → meeting (p .sx) (p .sy) (flowAt p f) (flowAt p g) ≡ m
+      → (m : Meeting) → meeting p (flowAt p f) (flowAt p g) ≡ m
       → count (passedOf g) (b .lines) ≤ share (flowAt p g) (b .clock - s) (spreadOf m)
   unfolding share
   of-meeting late g held never e =
@@ -84,8 +84,8 @@ module _ (p : Plan) (b : Book) (f s : ℕ) where
       elim (ℕ-discrete g f) [
         | yes own ↦ omega (arith, none-passed g (λ l h. h .has .other (h .own ∙ own)))
         | no other ↦
-            rw (ne-eqb g f other, ← (meeting-conflict (p .sx) (p .sy) (flowAt p f) (flowAt p g)))
-            (of-meeting late g held (meeting (p .sx) (p .sy) (flowAt p f) (flowAt p g)) refl)
+            rw (ne-eqb g f other, ← (meeting-conflict p (flowAt p f) (flowAt p g)))
+            (of-meeting late g held (meeting p (flowAt p f) (flowAt p g)) refl)
       ]
 
   -- what passed f from cycle s on is at most I(clock − s)

@@ -13,58 +13,64 @@ use Rattle.flow.specs.declared.Flow.{Flow}
 use Rattle.flow.specs.declared.Port.{Port}
 use Rattle.flow.specs.declared.Port.the-variants.{East, South}
 use Rattle.flow.specs.Offsets.{ΔX, ΔY, portOf, sameClient}
+use Rattle.flow.specs.Plan.{Plan}
+use Rattle.turning.specs.Turning.{isTurning}
 use Rattle.conflict.specs.declared.Conflict.{Conflict}
 use Rattle.conflict.specs.declared.Conflict.the-variants.{Free, Spread}
-use Rattle.conflict.specs.Conflict.{rowsTo, columnsTo, conflict, conflictEast, conflictSouth}
+use Rattle.conflict.specs.Conflict.{rowsTo, columnsTo, laps, conflictEast, conflictSouth, conflictBy, conflict}
 
 -- g never meets f, or after K cycles and at most J more, when its progress is past the point
 pub data Meeting : Type 0 where
   never : Meeting
   meets : (K J point : ℕ) → Meeting
 
+-- a lap for each row turning for g among the first r rows of its way
+abbrev pub lapsOf : Plan → Flow → ℕ → ℕ
+lapsOf p g r = laps (p .sx) (p .sy) (isTurning p (g .xd)) g r
+
 -- f's port is E: g is in f's row first, or comes to it later
-abbrev pub meetingEast : ℕ → ℕ → Flow → Flow → Meeting
-meetingEast sx sy f g =
-    let r : ℕ = rowsTo sy f g in
-    let j : ℕ = columnsTo sx f g in
-    let k : ℕ = lap sx (g .xd) (f .xs) in
+abbrev pub meetingEast : Plan → Flow → Flow → Meeting
+meetingEast p f g =
+    let r : ℕ = rowsTo (p .sy) f g in
+    let j : ℕ = columnsTo (p .sx) f g in
+    let k : ℕ = lap (p .sx) (g .xd) (f .xs) in
     cond (eqb r 0)
-    (cond (leb 1 j && leb j (ΔX sx g)) (meets j 0 j) never)
-    (cond (leb r (ΔY sy g)) (meets (ΔX sx g + r + k) ((r - 1) * sx) (r * suc sx + k)) never)
+    (cond (leb 1 j && leb j (ΔX (p .sx) g)) (meets j 0 j) never)
+    (cond (leb r (ΔY (p .sy) g) && isTurning p (g .xd) (f .ys)) (meets (ΔX (p .sx) g + r + k) (lapsOf p g (r - 1)) (r * suc (p .sx) + k)) never)
 
 -- f's port is S: g comes down f's column
-abbrev pub meetingSouth : ℕ → ℕ → Flow → Flow → Meeting
-meetingSouth sx sy f g =
-    let r : ℕ = rowsTo sy f g in
-    cond (eqb (g .xd) (f .xs) && leb r (ΔY sy g)) (meets (ΔX sx g + r) (r * sx) (r * suc sx + sx)) never
+abbrev pub meetingSouth : Plan → Flow → Flow → Meeting
+meetingSouth p f g =
+    let r : ℕ = rowsTo (p .sy) f g in
+    cond (eqb (g .xd) (f .xs) && leb r (ΔY (p .sy) g)) (meets (ΔX (p .sx) g + r) (lapsOf p g r) (r * suc (p .sx) + p .sx)) never
 
-abbrev pub meetingAt : ℕ → ℕ → Flow → Flow → Port → Meeting
-meetingAt sx sy f g East = meetingEast sx sy f g
-meetingAt sx sy f g South = meetingSouth sx sy f g
+abbrev pub meetingAt : Plan → Flow → Flow → Port → Meeting
+meetingAt p f g East = meetingEast p f g
+meetingAt p f g South = meetingSouth p f g
 
 -- flows of one client meet at their entry
-unfoldable pub meeting : ℕ → ℕ → Flow → Flow → Meeting
-meeting sx sy f g = cond (sameClient f g) (meets 0 0 0) (meetingAt sx sy f g (portOf sx f))
+unfoldable pub meeting : Plan → Flow → Flow → Meeting
+meeting p f g = cond (sameClient f g) (meets 0 0 0) (meetingAt p f g (portOf (p .sx) f))
 
 abbrev pub spreadOf : Meeting → Conflict
 spreadOf never = Free
 spreadOf (meets K J point) = Spread J
 
 -- the spread is the conflict's
-pub meeting-conflict : (sx sy : ℕ) (f g : Flow) → spreadOf (meeting sx sy f g) ≡ conflict sx sy f g
-unfolding meeting conflict conflictEast conflictSouth
-meeting-conflict sx sy f g =
+pub meeting-conflict : (p : Plan) (f g : Flow) → spreadOf (meeting p f g) ≡ conflict p f g
+unfolding meeting conflict conflictBy conflictEast conflictSouth
+meeting-conflict p f g =
     elim (test (sameClient f g)) [
       | inl same ↦ rw same
-      | inr other ↦ elim (test (ltb 0 (ΔX sx f))) [
-        | inl east ↦ elim (test (eqb (rowsTo sy f g) 0)) [
-          | inl row ↦ elim (test (leb 1 (columnsTo sx f g) && leb (columnsTo sx f g) (ΔX sx g))) [
+      | inr other ↦ elim (test (ltb 0 (ΔX (p .sx) f))) [
+        | inl east ↦ elim (test (eqb (rowsTo (p .sy) f g) 0)) [
+          | inl row ↦ elim (test (leb 1 (columnsTo (p .sx) f g) && leb (columnsTo (p .sx) f g) (ΔX (p .sx) g))) [
             | inl t ↦ rw (other, east, row, t)
             | inr t ↦ rw (other, east, row, t)
           ]
-          | inr row ↦ elim (test (leb (rowsTo sy f g) (ΔY sy g))) [ inl t ↦ rw (other, east, row, t) | inr t ↦ rw (other, east, row, t) ]
+          | inr row ↦ elim (test (leb (rowsTo (p .sy) f g) (ΔY (p .sy) g) && isTurning p (g .xd) (f .ys))) [ inl t ↦ rw (other, east, row, t) | inr t ↦ rw (other, east, row, t) ]
         ]
-        | inr south ↦ elim (test (eqb (g .xd) (f .xs) && leb (rowsTo sy f g) (ΔY sy g))) [ inl t ↦ rw (other, south, t) | inr t ↦ rw (other, south, t) ]
+        | inr south ↦ elim (test (eqb (g .xd) (f .xs) && leb (rowsTo (p .sy) f g) (ΔY (p .sy) g))) [ inl t ↦ rw (other, south, t) | inr t ↦ rw (other, south, t) ]
       ]
     ]
 

@@ -19,7 +19,7 @@ use Rattle.router.specs.Links.{Output, feeder}
 use Rattle.router.specs.Rule.{via}
 use Rattle.router.proofs.Links.{feeder-on, reach-feeder}
 use Rattle.router.proofs.Path.{placed-on}
-use Rattle.book.proofs.Traced.{stands-path, Traced, line-ok, traced-step}
+use Rattle.book.proofs.Traced.{mostBy, stands-path, Traced, line-ok, traced-step}
 use Rattle.book.proofs.Spans.{Lawful}
 use Rattle.book.proofs.Held.{Apart}
 use Rattle.book.proofs.Outputs.{outgoing, one-output}
@@ -52,7 +52,7 @@ module _ (p : Plan) (b : Book) (law : Lawful p b) (apart : Apart b) where
 
       on : (l : Line) → Mem l ((stepped p b) .lines) → there l ≡ true → (columnOf at < p .sx) × (rowOf at < p .sy)
       on l m h =
-          placed-on p (flowAt p (l .flow)) (line-ok p (law .plan) (stepped p b) after l m) (b .clock + 1) (l .D) (entryOf (l .stage)) at
+          placed-on p (flowAt p (l .flow)) (mostBy p (flowAt p (l .flow))) (line-ok p (law .plan) (stepped p b) after l m) (b .clock + 1) (l .D) (entryOf (l .stage)) at
           (stands-path p (flowAt p (l .flow)) (b .clock + 1) (l .D) at (l .stage) (after .sound l m) h)
 
 pub apart-offer : (b : Book) → Apart b → (f : ℕ) → Apart (offered b f)

@@ -3,6 +3,7 @@ use mathlib.Core.Bool.{Bool, true, false, _&&_}
 use mathlib.Core.List.{List, List·Memᴰ as Mem}
 use mathlib.Core.Path.{_≡_, refl, ap}
 use Prim.Native.Nat.{ℕ, suc, _+_, _-_, _≤_, _<_}
+use native.Mathlib.Nat.{le-trans}
 use native.Mathlib.Omega.{arith}
 use borrow.Author.Tests.{eq-eqb, eqb-true}
 use lib.Dec.{eqb}
@@ -15,6 +16,8 @@ use Rattle.flow.specs.Ranges.{PlanOk}
 use Rattle.window.specs.declared.Window.the-variants.{At}
 use Rattle.window.specs.Window.{interference, windowOf}
 use Rattle.window.proofs.Windows.{window-least}
+use Rattle.flight.specs.Flight.{mostDeflections}
+use Rattle.flight.proofs.Flight.{deflections-few}
 use Rattle.router.specs.Delivery.{Delivery}
 use Rattle.book.specs.Line.{Stage, waiting, placed, left, Line, isWaiting, isLeft, entryOf}
 use Rattle.book.specs.Book.{Book, ofFlow}
@@ -115,12 +118,15 @@ module _ (p : Plan) (b : Book) (k : Kept p b) where
         let h = and-true _ _ (l .2) in
         (l .0, l .1, h .0, same-is d (deliveryOf (l .0)) (h .1))
 
+    few : (l : Line) → Mem l (b .lines) → l .D ≤ mostDeflections p (flowAt p (l .flow))
+    few l m = sound-deflections p _ (line-ok p (law .plan) b (law .traced) l m) (b .clock) (l .D) (l .stage) (law .traced .sound l m)
+
     kept-promises : Promises p b ds
     kept-promises =
         record {
           enters-by = enters-in-time;
-          deflections-most = λ l m.
-              sound-deflections p _ (line-ok p (law .plan) b (law .traced) l m) (b .clock) (l .D) (l .stage) (law .traced .sound l m);
+          deflections-most = λ l m. le-trans (few l m) (deflections-few p (flowAt p (l .flow)));
+          deflections-turning = few;
           flies = λ l m.
               sound-flies p _ (line-ok p (law .plan) b (law .traced) l m) (b .clock) (l .D) (l .stage) (law .traced .sound l m);
           delivered-once = once;

@@ -22,7 +22,7 @@ use Rattle.router.proofs.Path.{placed-on}
 use Rattle.book.specs.Line.{Stage, waiting, placed, left, Line, standsIn, leftAt}
 use Rattle.book.specs.Book.{Book}
 use Rattle.book.specs.Cycle.{linesIn, output, enters, lowest, sent, moveStage, move, stepped}
-use Rattle.book.proofs.Traced.{Sound, line-ok}
+use Rattle.book.proofs.Traced.{mostBy, Sound, line-ok}
 use Rattle.book.proofs.Spans.{Lawful}
 use Rattle.book.proofs.Outputs.{leaves, leavesBy, outgoing}
 
@@ -59,7 +59,7 @@ module _ (p : Plan) (b : Book) (law : Lawful p b) (x y : ℕ) (o : Way) (t : Sta
         | inr stay ↦ rw stay (tells .waits)
       ]
   moved l ok D (placed e at) h =
-      let on = placed-on p (flowAt p (l .flow)) ok (b .clock) D e at h in
+      let on = placed-on p (flowAt p (l .flow)) (mostBy p (flowAt p (l .flow))) ok (b .clock) D e at h in
       tells .sends e (columnOf at) (rowOf at) (output p b (flowAt p (l .flow)) at) (on .0) (on .1)
   moved l ok D (left e u x′ y′) h = tells .gone e u x′ y′ (h .past)
 

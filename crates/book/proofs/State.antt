@@ -10,37 +10,40 @@ use lib.ListN.{length}
 use Rattle.torus.proofs.Axis.{lap-most}
 use Rattle.flow.specs.declared.Flow.{Flow}
 use Rattle.flow.specs.Plan.{Plan, flowAt}
+use Rattle.flow.specs.Offsets.{ΔY}
 use Rattle.flow.specs.Ranges.{FlowOk}
 use Rattle.bucket.specs.Regulator.{bucketFits}
 use Rattle.bucket.proofs.Regulator.{fits}
+use Rattle.turning.specs.Turning.{isTurning}
+use Rattle.turning.proofs.Turning.{south-most}
 use Rattle.flight.specs.Flight.{travel, mostDeflections}
 use Rattle.place.specs.Place.{Place, W, N}
-use Rattle.place.specs.InPlace.{inPlace}
+use Rattle.place.specs.InPlace.{rowsDone, inPlace}
 use Rattle.router.proofs.Path.{OnPath, placed-on, entered-before}
 use Rattle.router.proofs.InPlace.{path-in-place}
 use Rattle.book.specs.Line.{Stage, waiting, placed, left, Line, standsIn, entryOf}
 use Rattle.book.specs.Book.{Book, bucketAt, enteredOf}
 use Rattle.book.specs.Promises.{Flies}
 use Rattle.book.proofs.Queue.{entered-within, serial-range}
-use Rattle.book.proofs.Traced.{Sound, stands-entered, stands-path, line-ok}
+use Rattle.book.proofs.Traced.{mostBy, most-rising, Sound, stands-entered, stands-path, line-ok}
 use Rattle.book.proofs.Kept.{Kept}
 
 module _ (p : Plan) (f : Flow) (ok : FlowOk (p .sx) (p .sy) f) (c D : ℕ) where
   pub sound-flies : (s : Stage) → Sound p f c D s → Flies p f D c s
   sound-flies waiting h = tt
-  sound-flies (placed e at) h = let on = placed-on p f ok c D e at h in (on .0, on .1, in-time at h)
+  sound-flies (placed e at) h = let on = placed-on p f (mostBy p f) ok c D e at h in (on .0, on .1, in-time at h)
     where
-      in-time : (at : Place) → OnPath p f c D e at → c ≤ e + travel (p .sx) (p .sy) f D
+      in-time : (at : Place) → OnPath p f (mostBy p f) c D e at → c ≤ e + travel (p .sx) (p .sy) f D
       in-time (N x y) h = omega (arith, h .time, h .most)
       in-time (W x y) (inl h) = omega (arith, h .time, h .most)
       in-time (W x y) (inr h) = omega (arith, h .time, h .most, lap-most (p .sx) (f .xd) x (ok .xd-on) (h .column))
   sound-flies (left e t x y) h = (h .out .column, h .out .row, h .out .time)
 
-  pub sound-deflections : (s : Stage) → Sound p f c D s → D ≤ mostDeflections (p .sx) (p .sy) f
+  pub sound-deflections : (s : Stage) → Sound p f c D s → D ≤ mostDeflections p f
   sound-deflections waiting h = omega arith
-  sound-deflections (placed e (N x y)) h = omega (arith, h .few, h .most)
+  sound-deflections (placed e (N x y)) h = omega (arith, h .few, most-rising p f (rowsDone (p .sy) f y - 1) (ΔY (p .sy) f) (omega (arith, h .most)))
   sound-deflections (placed e (W x y)) (inl h) = omega (arith, h .none)
-  sound-deflections (placed e (W x y)) (inr h) = omega (arith, h .few, h .most)
+  sound-deflections (placed e (W x y)) (inr h) = omega (arith, h .few, most-rising p f (rowsDone (p .sy) f y) (ΔY (p .sy) f) (h .most))
   sound-deflections (left e t x y) h = h .out .few
 
 -- the packet of a line in this register, as words that form a state have it
@@ -62,6 +65,6 @@ module _ (p : Plan) (b : Book) (k : Kept p b) where
       record {
         least = serial-range b (law .queued) l m .0;
         most = entered-within b (law .queued) l m (stands-entered at (l .stage) h);
-        before = entered-before p φ (line-ok p (law .plan) b (law .traced) l m) (b .clock) (l .D) (entryOf (l .stage)) at path;
-        in-place = path-in-place p φ (line-ok p (law .plan) b (law .traced) l m) (b .clock) (l .D) (entryOf (l .stage)) at path;
+        before = entered-before p φ (mostBy p φ) (line-ok p (law .plan) b (law .traced) l m) (b .clock) (l .D) (entryOf (l .stage)) at path;
+        in-place = path-in-place p φ (line-ok p (law .plan) b (law .traced) l m) (b .clock) (l .D) (mostBy p φ) (south-most (p .sy) (isTurning p (φ .xd)) (φ .ys)) (entryOf (l .stage)) at path;
       }

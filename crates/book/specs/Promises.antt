@@ -6,6 +6,7 @@ use Prim.Native.Nat.{ℕ, _+_, _-_, _*_, _≤_, _<_}
 use lib.Dec.{eqb}
 use Rattle.laws.specs.Count.{count}
 use Rattle.flow.specs.declared.Flow.{Flow}
+use Rattle.flow.specs.Offsets.{ΔY}
 use Rattle.flow.specs.Plan.{Plan, flowAt}
 use Rattle.window.specs.declared.Window.the-variants.{At}
 use Rattle.window.specs.Window.{windowOf}
@@ -43,7 +44,9 @@ pub record Promises (p : Plan) (b : Book) (delivered : List Delivery) : Type 0 w
   -- where a line's flow has a window T, it enters in time
   pub enters-by : (l : Line) → Mem l (b .lines) → (T : ℕ) → windowOf p (l .flow) ≡ At T → EntersBy (deadline p l T) (b .clock) (l .stage)
   -- every D is at most ΔY of its flow
-  pub deflections-most : (l : Line) → Mem l (b .lines) → l .D ≤ mostDeflections (p .sx) (p .sy) (flowAt p (l .flow))
+  pub deflections-most : (l : Line) → Mem l (b .lines) → l .D ≤ ΔY (p .sy) (flowAt p (l .flow))
+  -- 02, U8: "at most the number of turning rows among the ΔY rows south of the source, for destination column xd"
+  pub deflections-turning : (l : Line) → Mem l (b .lines) → l .D ≤ mostDeflections p (flowAt p (l .flow))
   pub flies : (l : Line) → Mem l (b .lines) → Flies p (flowAt p (l .flow)) (l .D) (b .clock) (l .stage)
   -- each line with an exit was delivered once, and nothing else was delivered
   pub delivered-once : (l : Line) → Mem l (b .lines) → isLeft (l .stage) ≡ true → count (λ d. sameWords d (deliveryOf l)) delivered ≡ 1

@@ -14,10 +14,9 @@ use Rattle.laws.proofs.Bounded.{is-tabulate}
 use Rattle.laws.proofs.Cases.{and-true, or-false}
 use Rattle.flow.specs.declared.Flow.{Flow}
 use Rattle.flow.specs.Offsets.{ΔY}
-use Rattle.flow.specs.Plan.{Plan, flowAt, mostSize}
-use Rattle.flow.specs.Ranges.{FlowOk}
+use Rattle.flow.specs.Plan.{Plan, flowAt}
 use Rattle.flow.specs.Limits.{exitSize}
-use Rattle.flight.specs.Flight.{travel, flight}
+use Rattle.flight.specs.Flight.{travel, flight, flightOf}
 use Rattle.router.specs.Delivery.{Delivery, deliveryWith, wordsOf}
 use Rattle.router.proofs.Delivery.{words-length}
 use Rattle.state.specs.Read.{sxIn, syIn, countIn, planIn, stateOf}

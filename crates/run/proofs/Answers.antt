@@ -52,16 +52,16 @@ entered-by (placed e at) later past h = (refl, omega arith)
 entered-by (left e t x y) later past h = (refl, omega arith)
 
 -- a line's flight is within the bound, and once the step of its last cycle has run, it has left
-module _ (p : Plan) (f : Flow) (D clock : ℕ) (most : D ≤ mostDeflections (p .sx) (p .sy) f) where
-  within : flightOf (p .sx) (p .sy) f D ≤ flightBound (p .sx) (p .sy) f
-  within = flight-bounded (p .sx) (p .sy) f D most
+module _ (p : Plan) (f : Flow) (D clock : ℕ) (most : D ≤ mostDeflections p f) where
+  within : flightOf (p .sx) (p .sy) f D ≤ flightBound p f
+  within = flight-bounded p f D most
 
-  flight-within : (s : Stage) → Flies p f D clock s → isLeft s ≡ true → flight (entryOf s) (exitOf s) ≤ flightBound (p .sx) (p .sy) f
+  flight-within : (s : Stage) → Flies p f D clock s → isLeft s ≡ true → flight (entryOf s) (exitOf s) ≤ flightBound p f
   flight-within waiting h gone = absurd (false≢true gone)
   flight-within (placed e at) h gone = absurd (false≢true gone)
   flight-within (left e t x y) h gone = rw (h .2, flight-of (p .sx) (p .sy) f D e) within
 
-  left-by : (s : Stage) → Flies p f D clock s → isWaiting s ≡ false → entryOf s + flightBound (p .sx) (p .sy) f - 2 < clock → isLeft s ≡ true
+  left-by : (s : Stage) → Flies p f D clock s → isWaiting s ≡ false → entryOf s + flightBound p f - 2 < clock → isLeft s ≡ true
   left-by waiting h entered past = absurd (false≢true (sym entered))
   left-by (placed e at) h entered past = absurd (omega (arith, h .2, within))
   left-by (left e t x y) h entered past = refl
@@ -122,11 +122,11 @@ module _ (file words : List ℕ) (bytes : Bytes file) (done : (resetOn file word
     entered : (T cycle : ℕ) → windowAnswer file (x .flow) ≡ Done T → deadline p x T ≤ cycle → HasRun b cycle → EnteredBy cycle x
     entered T cycle e later past = entered-by (x .stage) later past (follows .promised .enters-by x m T (window-told file (x .flow) T e))
 
-    flown : isLeft (x .stage) ≡ true → flight (entryOf (x .stage)) (exitOf (x .stage)) ≤ flightBound (p .sx) (p .sy) φ
-    flown = flight-within p φ (x .D) (b .clock) (follows .promised .deflections-most x m) (x .stage) (follows .promised .flies x m)
+    flown : isLeft (x .stage) ≡ true → flight (entryOf (x .stage)) (exitOf (x .stage)) ≤ flightBound p φ
+    flown = flight-within p φ (x .D) (b .clock) (follows .promised .deflections-turning x m) (x .stage) (follows .promised .flies x m)
 
-    gone : isWaiting (x .stage) ≡ false → HasRun b (entryOf (x .stage) + flightBound (p .sx) (p .sy) φ - 2) → isLeft (x .stage) ≡ true
-    gone = left-by p φ (x .D) (b .clock) (follows .promised .deflections-most x m) (x .stage) (follows .promised .flies x m)
+    gone : isWaiting (x .stage) ≡ false → HasRun b (entryOf (x .stage) + flightBound p φ - 2) → isLeft (x .stage) ≡ true
+    gone = left-by p φ (x .D) (b .clock) (follows .promised .deflections-turning x m) (x .stage) (follows .promised .flies x m)
 
   -- a call fed to the book, which is answered by 0
   module _ (c : Call) (i : Item) (feeds-it : role (i .asked) ≡ feeds c (justWords [])) (no-reset : (g : List ℕ) → i .asked ≡ reset g → ⊥)

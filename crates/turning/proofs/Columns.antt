@@ -1,7 +1,7 @@
 -- The columns' words, flow by flow: each flow keeps what they tell, and after all flows they tell the turning rows. A word counted in
 -- bits counts its rows. Rests on the laws of bits.
-use mathlib.Core.Bool.{Bool, true, false, not, cond, _&&_, _||_, and-true, and-false, or-false}
-use mathlib.Core.List.{List, [], _∷_, _++_}
+use mathlib.Core.Bool.{Bool, false, not, _||_, and-true, and-false, or-false}
+use mathlib.Core.List.{List, [], _∷_}
 use mathlib.Core.Logic.{inl, inr, _≢_}
 use mathlib.Core.Path.{_≡_, refl, sym, ap, _∙_}
 use Prim.Native.Nat.{ℕ, _+_, _-_, _*_, _/_, _%_, _^_, _≤_, _<_}
@@ -27,7 +27,7 @@ use Rattle.flow.specs.declared.Flow.{Flow}
 use Rattle.flow.specs.Plan.{Plan, flowAt, noFlow, mostSize}
 use Rattle.flow.specs.Ranges.{FlowOk}
 use Rattle.turning.specs.Turning.{turnsInto, isTurning, rowsSouth}
-use Rattle.turning.specs.Columns.{Told, turnsBy, TurningBy, TurningIn, noted}
+use Rattle.turning.specs.Columns.{turnsBy, TurningBy, TurningIn, noted}
 
 -- in a word of 32 bits, a bit of a row is that power of 2
 pub bit-fits : (k : ℕ) → k ≤ mostSize → 1 * 2 ^ k % 4294967296 ≡ 2 ^ k

@@ -1,20 +1,18 @@
 -- Laws of turning rows: the count rises by 1 at a row that passes the test and stays at any other. Rests on specs/Turning and the laws
 -- of offsets.
-use mathlib.Core.Bool.{Bool, true, false, not, _&&_}
+use mathlib.Core.Bool.{Bool, true}
 use mathlib.Core.List.{List, [], _∷_, List·Memᴰ as Mem, List·Memᴰ·head as here, List·Memᴰ·tail as there}
 use mathlib.Core.Logic.{inl, inr, _≢_}
 use mathlib.Core.Path.{_≡_, refl, sym, ap, _∙_}
-use Prim.Native.Nat.{ℕ, zero, suc, _+_, _-_, _*_, _%_, _≤_, _<_}
+use Prim.Native.Nat.{ℕ, zero, suc, _+_, _-_, _%_, _≤_, _<_}
 use native.Mathlib.Nat.{mod-lt, mod-eq-of-lt, add-mod-right}
 use native.Mathlib.Omega.{arith}
 use borrow.Author.Tests.{eq-eqb, ne-eqb}
-use lib.Dec.{eqb}
 use lib.ListN.{length, getD}
-use Rattle.laws.specs.Bounded.{sumBelow}
 use Rattle.laws.specs.Count.{one, any}
 use Rattle.laws.proofs.Cases.{test}
 use Rattle.laws.proofs.Count.{one-most, any-mem}
-use Rattle.laws.proofs.Sum.{sum-none, sum-more, sum-most, sum-same}
+use Rattle.laws.proofs.Sum.{sum-more, sum-most, sum-same}
 use Rattle.torus.specs.Axis.{offset}
 use Rattle.torus.proofs.Axis.{offset-cases}
 use Rattle.flow.specs.declared.Flow.{Flow}
