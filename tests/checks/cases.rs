@@ -1,4 +1,4 @@
-//! 01's "Cases on both sides", on the second simulator alone.
+//! 01's "Cases on both sides", on the second simulator alone, each with its own plan.
 
 use second::book::{Book, Router};
 use second::compare::plans::{LAST_WINDOW, PAST_THE_LAST, late_window};
@@ -30,15 +30,16 @@ fn no(number: u64, place: u64) -> Result<u64, Refusal> {
     Err(Refusal { number, place })
 }
 
+/// Alone in its plan, a flow's bound is its flight.
 #[test]
 fn flights_unhindered_and_their_bounds() {
-    for (ends, dx, dy, flight, bound) in
-        [([0, 0, 3, 3], 3, 3, 8, 20), ([3, 3, 3, 1], 0, 2, 4, 12), ([2, 2, 2, 2], 0, 0, 2, 2)]
+    for (ends, dx, dy, flight) in
+        [([0, 0, 3, 3], 3, 3, 8), ([3, 3, 3, 1], 0, 2, 4), ([2, 2, 2, 2], 0, 0, 2)]
     {
         let [xs, ys, xd, yd] = ends;
         let plan = four_by_four(&[[xs, ys, xd, yd, 1, 1]]);
         assert_eq!((plan.dx(0), plan.dy(0)), (dx, dy));
-        assert_eq!(flight_bound(&plan, 0), bound);
+        assert_eq!(flight_bound(&plan, 0), flight);
         let (entry, exit, d) = one_packet_each(plan)[0];
         assert_eq!((exit - entry + 2, d), (flight, 0));
     }
@@ -73,7 +74,7 @@ fn windows() {
         assert_eq!(window_call(&plan.file(&[]), 0), answer);
     }
     let plan = four_by_four(&[[0, 2, 0, 3, 10, 1], [0, 0, 0, 3, 8, 1]]);
-    assert_eq!((spread(&plan, 0, 1), window(&plan, 0)), (Some(8), Some(4)));
+    assert_eq!((spread(&plan, 0, 1), window(&plan, 0)), (Some(0), Some(3)));
 }
 
 #[test]
@@ -81,6 +82,7 @@ fn the_last_window() {
     let plan = late_window(LAST_WINDOW, &[]);
     assert_eq!((spread(&plan, 0, 1), window(&plan, 0)), (Some(2), Some(65_535)));
     let plan = late_window(PAST_THE_LAST, &[]);
+    assert_eq!((spread(&plan, 0, 1), spread(&plan, 0, 2)), (Some(3), Some(0)));
     assert_eq!(window_call(&plan.file(&[]), 0), no(14, 0));
     assert!(interference(&rivals(&plan, 0), 65_536) < 65_536);
 }

@@ -4,7 +4,7 @@ use second::book::Book;
 use second::calls::{Answer, offer_set, step, step_reasons};
 use second::compare::scenes::{Scene, all_pairs, scenes};
 use second::plan::{Flow, Plan, refuse};
-use second::promises::{check, check_reasons, windows};
+use second::promises::{Limits, check, check_reasons};
 use second::state::{judge, words};
 
 /// Two flows of the client (0,0) on 4 by 4, by E and by S, each with two tokens. The next comes at the end
@@ -118,7 +118,7 @@ fn both_steps_in_one_list() {
         });
     }
     assert_eq!(delivered.len(), 4);
-    check(&book, &windows(&book, |_| true), &delivered);
+    check(&book, &Limits::of_all(&book.plan), &delivered);
 }
 
 /// A call on words that are lent so: what it answers. All three memories stay, if it is refused.

@@ -5,7 +5,7 @@
 
 use second::book::Book;
 use second::compare::sets::list;
-use second::promises::{check, check_live, check_reasons, check_set, check_trial, windows};
+use second::promises::{Limits, check, check_live, check_reasons, check_set, check_trial};
 use second::random::{Random, plan};
 use second::state::{judge, words};
 
@@ -14,7 +14,7 @@ use second::state::{judge, words};
 fn run(random: &mut Random, mut book: Book, calls: usize) {
     let flows = book.plan.flows.len();
     let watched = random.index(flows);
-    let windows = windows(&book, |f| flows < 12 || f == watched);
+    let limits = Limits::of(&book.plan, |f| flows < 12 || f == watched);
     let offers = random.pick(&[5, 50, 90]);
     let room = book.plan.delivery_words();
     let mut delivered = Vec::new();
@@ -43,14 +43,14 @@ fn run(random: &mut Random, mut book: Book, calls: usize) {
         } else {
             delivered.extend(book.step(room).unwrap());
         }
-        check_live(&book, &windows);
+        check_live(&book, &limits);
         if random.percent(2) {
             let words = words(&book);
             let again = judge(&words).expect("the book's words form a state");
             assert_eq!(second::state::words(&again), words);
         }
     }
-    check(&book, &windows, &delivered);
+    check(&book, &limits, &delivered);
 }
 
 #[test]

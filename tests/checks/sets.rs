@@ -3,7 +3,7 @@
 use second::book::Book;
 use second::calls::offer_set;
 use second::plan::{Plan, Refusal};
-use second::promises::{check, windows};
+use second::promises::{Limits, check};
 use second::state::words;
 use second::window::window;
 
@@ -49,7 +49,7 @@ fn a_sets_packets_enter_by_their_bounds() {
     let delivered: Vec<_> = (0..30).flat_map(|_| book.step(80).unwrap()).collect();
     let entries: Vec<_> = book.lines.iter().map(|line| line.entry).collect();
     assert_eq!(entries, [Some(0), Some(10), Some(20)]);
-    check(&book, &windows(&book, |_| true), &delivered);
+    check(&book, &Limits::of_all(&book.plan), &delivered);
 }
 
 /// Flow 1 has room for two packets. A refused set leaves every word.

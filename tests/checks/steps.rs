@@ -4,7 +4,7 @@
 use second::book::{Book, Bucket};
 use second::calls::{Answer, step, steps};
 use second::plan::{Flow, Plan, refuse};
-use second::promises::{check, windows};
+use second::promises::{Limits, check};
 use second::random::{self, Random};
 use second::state::{judge, words};
 
@@ -159,5 +159,5 @@ fn in_a_list_with_single_steps() {
         delivered.extend(book.step(80).unwrap());
     }
     assert_eq!(delivered.len(), 28);
-    check(&book, &windows(&book, |_| true), &delivered);
+    check(&book, &Limits::of_all(&book.plan), &delivered);
 }

@@ -3,7 +3,7 @@
 use second::book::Book;
 use second::calls::{offer, offer_set, offer_trial, step};
 use second::plan::{Plan, refuse};
-use second::promises::{check, windows};
+use second::promises::{Limits, check};
 use second::state::words;
 use second::window::window;
 
@@ -133,7 +133,7 @@ fn its_packets_have_the_same_promises() {
     let delivered: Vec<_> = (0..30).flat_map(|_| book.step(80).unwrap()).collect();
     let of_flow_0: Vec<_> = delivered.iter().filter(|group| group[0] == 0).copied().collect();
     assert_eq!(of_flow_0, [[0, 1, 0, 2, 0], [0, 2, 10, 12, 0], [0, 3, 20, 22, 0]]);
-    check(&book, &windows(&book, |_| true), &delivered);
+    check(&book, &Limits::of_all(&book.plan), &delivered);
 }
 
 #[test]

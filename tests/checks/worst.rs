@@ -2,7 +2,7 @@
 //! slipped bound and keep to the right one.
 
 use second::book::Book;
-use second::promises::{check, windows};
+use second::promises::{Limits, check};
 use second::slips::{met_exactly, met_late, refuted};
 use second::window::{lone_wait, window};
 use second::worst::{Worst, worst_wait};
@@ -17,7 +17,7 @@ fn replay(worst: &Worst, plan: &second::plan::Plan, f: usize) -> i64 {
         }
         delivered.extend(book.step(plan.delivery_words()).unwrap());
     }
-    check(&book, &windows(&book, |_| true), &delivered);
+    check(&book, &Limits::of_all(&book.plan), &delivered);
     let last = book.lines.iter().rfind(|line| line.flow == f).unwrap();
     assert_eq!(last.q, 0, "a lone packet");
     last.entry.unwrap() - last.offer

@@ -1,6 +1,6 @@
 //! A second simulator of the torus engine and a second reckoning of its bounds, written from 01's text by the packet
-//! book's lines, and of U1's records, U3's regulator, U4's sets, U5's periods, U6's offers and U7's reasons from 02's;
-//! many steps in one call are its single steps. And the comparison of another engine with it.
+//! book's lines, and of U1's records, U3's regulator, U4's sets, U5's periods, U6's offers, U7's reasons and U8's
+//! turning rows from 02's; many steps in one call are its single steps. And the comparison of another engine with it.
 
 #[cfg(any(feature = "bounds", feature = "engine"))]
 pub mod archive;
@@ -19,5 +19,6 @@ pub mod slips;
 pub mod state;
 pub mod steps;
 pub mod table;
+pub mod turning;
 pub mod window;
 pub mod worst;

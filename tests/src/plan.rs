@@ -79,6 +79,11 @@ impl Plan {
         (self.flows[f].yd - self.flows[f].ys).rem_euclid(self.sy)
     }
 
+    /// The flight of a packet of flow f with so many deflections.
+    pub fn flight(&self, f: usize, deflections: i64) -> i64 {
+        self.dx(f) + self.dy(f) + deflections * self.sx + 2
+    }
+
     pub fn port(&self, f: usize) -> Port {
         if self.dx(f) > 0 { Port::East } else { Port::South }
     }

@@ -1,28 +1,43 @@
-//! What 01 promises of the book after every list, U4 of a set, U6 of the trial generator's offer and U7
-//! of a step with reasons, asserted on its own lines.
+//! What 01 promises of the book after every list, U4 of a set, U6 of the trial generator's offer, U7 of a step with
+//! reasons and U8 of every D, asserted on its own lines.
 
 use crate::book::{Book, Delivery, Line};
 use crate::calls::Answer;
 use crate::offers::MOST_TRIAL;
-use crate::plan::{Port, Refusal, refuse};
+use crate::plan::{Plan, Port, Refusal, refuse};
+use crate::turning::most_deflections;
 use crate::window::window;
 
-/// The windows of the flows whose entry promise is watched (None: not watched, or no window).
-pub type Windows = Vec<Option<i64>>;
+/// What is promised of each flow's packets in a run from reset.
+pub struct Limits {
+    /// T of the flows whose entry promise is watched (None: not watched, or no window).
+    windows: Vec<Option<i64>>,
+    /// The most deflections, by U8.
+    deflections: Vec<i64>,
+}
 
-/// T of the flows that `watch` names.
-pub fn windows(book: &Book, watch: impl Fn(usize) -> bool) -> Windows {
-    let watched = |f| {
-        if watch(f) { window(&book.plan, f) } else { None }
-    };
-    (0..book.plan.flows.len()).map(watched).collect()
+impl Limits {
+    /// With T of the flows that `watch` names.
+    pub fn of(plan: &Plan, watch: impl Fn(usize) -> bool) -> Limits {
+        let watched = |f| {
+            if watch(f) { window(plan, f) } else { None }
+        };
+        let flows = 0..plan.flows.len();
+        let deflections = flows.clone().map(|f| most_deflections(plan, f)).collect();
+        Limits { windows: flows.map(watched).collect(), deflections }
+    }
+
+    /// With T of every flow.
+    pub fn of_all(plan: &Plan) -> Limits {
+        Limits::of(plan, |_| true)
+    }
 }
 
 /// The promises on all lines, that the list delivered exactly the lines with an exit, and what
 /// buckets have from reset.
-pub fn check(book: &Book, windows: &Windows, delivered: &[Delivery]) {
+pub fn check(book: &Book, limits: &Limits, delivered: &[Delivery]) {
     for line in &book.lines {
-        check_line(book, windows, line);
+        check_line(book, limits, line);
     }
     check_indexes(book);
     check_delivered(book, delivered);
@@ -30,10 +45,10 @@ pub fn check(book: &Book, windows: &Windows, delivered: &[Delivery]) {
 }
 
 /// The promises on the lines that can still change: enough after a single call.
-pub fn check_live(book: &Book, windows: &Windows) {
+pub fn check_live(book: &Book, limits: &Limits) {
     let waiting = book.waiting.iter().filter_map(|lines| lines.front());
     for &line in book.placed.iter().chain(waiting) {
-        check_line(book, windows, &book.lines[line]);
+        check_line(book, limits, &book.lines[line]);
     }
 }
 
@@ -84,15 +99,17 @@ pub fn check_reasons(before: &Book, reasons: &[u32], after: &Book) {
     assert_eq!(expected.collect::<Vec<_>>(), reasons, "clock {}", before.clock);
 }
 
-fn check_line(book: &Book, windows: &Windows, line: &Line) {
+fn check_line(book: &Book, limits: &Limits, line: &Line) {
     let plan = &book.plan;
     let f = line.flow;
-    if let Some(t) = windows[f] {
+    if let Some(t) = limits.windows[f] {
         let latest = line.offer + (line.q + 1) * (plan.flows[f].period + t - 1) - 1;
         let by = line.entry.unwrap_or(book.clock);
         assert!(by <= latest, "{line:?} enters after {latest}, clock {}", book.clock);
     }
     assert!(line.d <= plan.dy(f), "more deflections than ΔY: {line:?}");
+    let turning = limits.deflections[f];
+    assert!(line.d <= turning, "more deflections than the {turning} turning rows: {line:?}");
     let due = |entry: i64| entry + plan.dx(f) + plan.dy(f) + line.d * plan.sx;
     match (line.entry, line.exit) {
         (Some(entry), Some((exit, router))) => {

@@ -32,9 +32,7 @@ pub fn flight([_, _, entry, exit, _]: [u32; 5]) -> i64 {
 /// Is it of a flow in the plan, with D at most ΔY and the flight ΔX+ΔY+D×Sx+2?
 pub fn is_of_plan(plan: &Plan, group: [u32; 5]) -> bool {
     let (flow, d) = (group[0] as usize, group[4] as i64);
-    flow < plan.flows.len()
-        && d <= plan.dy(flow)
-        && flight(group) == plan.dx(flow) + plan.dy(flow) + d * plan.sx + 2
+    flow < plan.flows.len() && d <= plan.dy(flow) && flight(group) == plan.flight(flow, d)
 }
 
 /// Feeds one delivery of the plan to its flow's record.

@@ -1,10 +1,23 @@
-//! Windows and flight bounds, by 01's "Windows" with U3's curve and U5's periods. The search goes t by
-//! t, with no leaps, and ends at 65,535 however long a period is.
+//! Windows and flight bounds, by 01's "Windows" with U3's curve, U5's periods and U8's turning rows. The search
+//! goes t by t, with no leaps, and ends at 65,535 however long a period is.
 
 use crate::plan::{Plan, Port, Refusal, read, refuse};
+use crate::turning::{is_turning, most_deflections, turning_for};
 
 /// The spread J of flow g at the source of flow f, or None where g doesn't conflict with f.
 pub fn spread(plan: &Plan, f: usize, g: usize) -> Option<i64> {
+    let row_turns = is_turning(plan, plan.flows[f].ys, plan.flows[g].xd);
+    spread_by(plan, f, g, row_turns, |r| turning_for(plan, g, r))
+}
+
+/// The spread, where f's row turns for g or doesn't, by how many of the first r rows south of g's source count.
+pub fn spread_by(
+    plan: &Plan,
+    f: usize,
+    g: usize,
+    row_turns: bool,
+    rows: impl Fn(i64) -> i64,
+) -> Option<i64> {
     if g == f {
         return None;
     }
@@ -17,9 +30,14 @@ pub fn spread(plan: &Plan, f: usize, g: usize) -> Option<i64> {
     let j = (x - rival.xs).rem_euclid(plan.sx);
     match plan.port(f) {
         Port::East if r == 0 => (1 <= j && j <= plan.dx(g)).then_some(0),
-        Port::East => (r <= plan.dy(g)).then_some((r - 1) * plan.sx),
-        Port::South => (rival.xd == x && r <= plan.dy(g)).then_some(r * plan.sx),
+        Port::East => (r <= plan.dy(g) && row_turns).then(|| plan.sx * rows(r - 1)),
+        Port::South => (rival.xd == x && r <= plan.dy(g)).then(|| plan.sx * rows(r)),
     }
+}
+
+/// 01's own spread, by which every row turns. No window by U8 is larger than the one by this.
+pub fn spread_of_01(plan: &Plan, f: usize, g: usize) -> Option<i64> {
+    spread_by(plan, f, g, true, |r| r)
 }
 
 /// A conflicting flow as I(t) sees it.
@@ -64,7 +82,7 @@ pub fn window(plan: &Plan, f: usize) -> Option<i64> {
 }
 
 pub fn flight_bound(plan: &Plan, f: usize) -> i64 {
-    plan.dx(f) + plan.dy(f) + plan.dy(f) * plan.sx + 2
+    plan.flight(f, most_deflections(plan, f))
 }
 
 /// The longest wait of a packet offered with none waiting.
@@ -95,11 +113,15 @@ pub fn flight_call(file: &[u8], flow: u32) -> Result<u64, Refusal> {
 
 /// What the listing prints for this file.
 pub fn listing(file: &[u8]) -> String {
-    listing_by(file, window)
+    listing_by(file, window, flight_bound)
 }
 
-/// The listing by some rule that gives T of a flow.
-pub fn listing_by(file: &[u8], window: impl Fn(&Plan, usize) -> Option<i64>) -> String {
+/// The listing by some rules that give T and the flight bound of a flow.
+pub fn listing_by(
+    file: &[u8],
+    window: impl Fn(&Plan, usize) -> Option<i64>,
+    flight_bound: impl Fn(&Plan, usize) -> i64,
+) -> String {
     let plan = match read(file) {
         Ok((plan, _)) => plan,
         Err(no) => return format!("refused {} {}\n", no.number, no.place),

@@ -5,7 +5,7 @@ use super::records;
 use super::simulator::{Fault, Kind};
 use second::plan::{MOST_BYTES, change_records};
 use second::slips::refuted;
-use second::window::{listing, listing_by, window};
+use second::window::{flight_bound, listing, listing_by, window};
 
 /// What a faulty listing prints for a file whose right listing is this text.
 type Print = fn(&[u8], &str) -> String;
@@ -26,7 +26,9 @@ pub fn faults() -> Vec<Fault> {
     }
     for row in refuted() {
         let rule = move |plan: &_, f| row.slip.window(plan, f);
-        faults.push(printing(&format!("{:?}", row.slip), move |file| listing_by(file, rule)));
+        faults.push(printing(&format!("{:?}", row.slip), move |file| {
+            listing_by(file, rule, flight_bound)
+        }));
     }
     faults
 }
@@ -66,7 +68,7 @@ const FAULTS: &[(&str, Print)] = &[
         of_each_wait(text, |wait| (number(wait) % 1_000_000).to_string())
     }),
     ("a search past the last window", |file, _| {
-        listing_by(file, |plan, f| window(plan, f).or_else(|| past_the_last(plan, f)))
+        listing_by(file, |plan, f| window(plan, f).or_else(|| past_the_last(plan, f)), flight_bound)
     }),
     ("two spaces between fields", |_, text| text.replace(' ', "  ")),
     ("no newline at the end", |_, text| text.trim_end().into()),

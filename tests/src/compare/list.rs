@@ -6,7 +6,7 @@ use crate::book::{Book, Delivery};
 use crate::calls::Answer;
 use crate::lent::{Call, Lent};
 use crate::plan::{Plan, Refusal};
-use crate::promises::{Windows, check, check_live, check_reasons, check_set, windows};
+use crate::promises::{Limits, check, check_live, check_reasons, check_set};
 use crate::random;
 use crate::state::words;
 
@@ -28,7 +28,7 @@ pub struct List {
     /// The state, and the flows' records, which keep so many deliveries at most.
     pub memory: Memory,
     last: u32,
-    windows: Windows,
+    limits: Limits,
     delivered: Vec<Delivery>,
 }
 
@@ -42,10 +42,10 @@ impl List {
         run.accepts(Call::Reset, &mut memory);
         let flows = plan.flows.len();
         let watched = run.random.index(flows);
+        let limits = Limits::of(&plan, |f| flows <= 6 || f == watched);
         let book = Book::new(plan);
-        let windows = windows(&book, |f| flows <= 6 || f == watched);
         let last = recent::keep(run.random, &mut memory, flows);
-        List { book, memory, last, windows, delivered: Vec::new() }
+        List { book, memory, last, limits, delivered: Vec::new() }
     }
 
     /// How many packets of a flow wait.
@@ -57,7 +57,7 @@ impl List {
     pub fn call(&mut self, run: &mut Run, call: Call) -> Answer {
         let (book, delivered) = (&mut self.book, &mut self.delivered);
         let answer = run.call_by(call, &mut self.memory, |lent| feed(book, delivered, lent));
-        check_live(&self.book, &self.windows);
+        check_live(&self.book, &self.limits);
         answer
     }
 
@@ -132,7 +132,7 @@ impl List {
 
     /// The promises on all lines, at the end.
     pub fn end(self) {
-        check(&self.book, &self.windows, &self.delivered);
+        check(&self.book, &self.limits, &self.delivered);
     }
 }
 

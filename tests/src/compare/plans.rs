@@ -18,21 +18,23 @@ pub fn at_boundaries() -> Vec<Vec<u8>> {
     files
 }
 
-/// A spread and a burst with which flow 0 of `late_window` has the window 65,535, and with which
-/// it would have 65,536.
-pub const LAST_WINDOW: (i64, i64) = (2, 247);
-pub const PAST_THE_LAST: (i64, i64) = (1, 248);
+/// Columns and rivals with a spread with which flow 0 of `late_window` has the window 65,535, and with which it
+/// would have 65,536.
+pub const LAST_WINDOW: (i64, i64) = (2, 8);
+pub const PAST_THE_LAST: (i64, i64) = (3, 1);
 
-/// Flow 0 has the longest period. Its rivals all have this spread: eight with periods 2, 4 to 256, and
-/// slow ones with these periods. The first has this burst, less 2 for each slow one, which adds so much
-/// to I(t) until its period is over; the others have burst 1.
-pub fn late_window((spread, burst): (i64, i64), slow: &[i64]) -> Plan {
-    let flow = |ys, period, burst| Flow::from_numbers([0, ys, 0, spread, period, burst]);
-    let mut flows = vec![flow(spread, MOST_PERIOD, 1)];
-    flows.push(flow(0, 2, burst - 2 * slow.len() as i64));
-    flows.extend((2..=8).map(|power| flow(0, 1 << power, 1)));
+/// Flow 0 has the longest period. Its rivals come down its column: eight with periods 2, 4 to 256, and slow ones
+/// with these periods. The last flow makes row 1 turn, so that those of row 0 have the spread Sx: the slow ones and
+/// so many of the eight. The first has burst 247, less 2 for each slow one, which adds so much to I(t) until its
+/// period is over; the others have burst 1.
+pub fn late_window((columns, above): (i64, i64), slow: &[i64]) -> Plan {
+    let flow = |ys, period, burst| Flow::from_numbers([0, ys, 0, 2, period, burst]);
+    let mut flows = vec![flow(2, MOST_PERIOD, 1)];
+    flows.push(flow(0, 2, 247 - 2 * slow.len() as i64));
+    flows.extend((2..=8).map(|power| flow((power > above) as i64, 1 << power, 1)));
     flows.extend(slow.iter().map(|&period| flow(0, period, 1)));
-    Plan { sx: 1, sy: spread + 1, flows }
+    flows.push(Flow::from_numbers([1, 1, 0, 1, MOST_PERIOD, 1]));
+    Plan { sx: columns, sy: 3, flows }
 }
 
 /// Windows about the last, without slow rivals and with them. A period of 65,535 is over in the last
