@@ -1,6 +1,6 @@
-//! The longest wait of a lone packet (q = 0) of a flow f with a window, over all lists of offers of
-//! a small plan. Only packets that enter hinder others, so the lists that are tried offer a packet
-//! in the cycle in which it enters; only the packet of f whose wait is measured is offered early.
+//! Over all lists of offers of a small plan, the most deflections of each flow's packets, and the longest wait of a
+//! lone packet (q = 0) of a flow f with a window. Only packets that enter hinder others, so the lists that are tried
+//! offer a packet in the cycle in which it enters; only the packet of f whose wait is measured is offered early.
 
 use crate::book::{Book, Place};
 use crate::plan::Plan;
@@ -87,49 +87,68 @@ impl Search {
     }
 }
 
-/// The longest wait of a lone packet of flow f over all lists from reset, and a list with it.
-pub fn worst_wait(plan: &Plan, f: usize) -> Worst {
+/// A book that a list reaches, the number of the book before it, and the flows that entered between them.
+struct Reached {
+    book: Book,
+    before: usize,
+    entered: Vec<u32>,
+}
+
+/// Every book that a list reaches, by breadth, one for each key.
+fn reached(plan: &Plan) -> Vec<Reached> {
     let sets = sets(plan.flows.len());
-    let without_f: Vec<_> = sets.iter().filter(|set| !set.contains(&(f as u32))).cloned().collect();
-    let mut search = Search { f, sets: without_f, longest: HashMap::new() };
-    let mut worst = Worst { wait: -1, offers: Vec::new() };
-    // Every book that such a list reaches, by breadth, one for each key: the book, the number of
-    // the book before it, and the flows that entered between them.
-    let mut books = vec![(Book::new(plan.clone()), 0, Vec::new())];
-    let mut seen = HashSet::from([key(&books[0].0)]);
+    let start = Book::new(plan.clone());
+    let mut seen = HashSet::from([key(&start)]);
+    let mut books = vec![Reached { book: start, before: 0, entered: Vec::new() }];
     let mut at = 0;
     while at < books.len() {
-        let book = books[at].0.clone();
+        for set in &sets {
+            if let Some(book) = cycle(&books[at].book, set)
+                && seen.insert(key(&book))
+            {
+                books.push(Reached { book, before: at, entered: set.clone() });
+            }
+        }
+        at += 1;
+    }
+    books
+}
+
+/// The most deflections of a packet of each flow over all lists from reset.
+pub fn worst_deflections(plan: &Plan) -> Vec<i64> {
+    let mut most = vec![0; plan.flows.len()];
+    for Reached { book, .. } in reached(plan) {
+        for line in book.placed.iter().map(|&line| &book.lines[line]) {
+            most[line.flow] = line.d.max(most[line.flow]);
+        }
+    }
+    most
+}
+
+/// The longest wait of a lone packet of flow f over all lists from reset, and a list with it.
+pub fn worst_wait(plan: &Plan, f: usize) -> Worst {
+    let without_f = |set: &Vec<u32>| !set.contains(&(f as u32));
+    let sets = sets(plan.flows.len()).into_iter().filter(without_f).collect();
+    let mut search = Search { f, sets, longest: HashMap::new() };
+    let mut worst = Worst { wait: -1, offers: Vec::new() };
+    let books = reached(plan);
+    for (at, Reached { book, .. }) in books.iter().enumerate() {
         let mut offered = book.clone();
         offered.offer(f as u32).unwrap();
         let wait = search.wait(&offered);
         if wait > worst.wait {
             worst = Worst { wait, offers: list(&mut search, &books, at, offered) };
         }
-        for set in &sets {
-            let Some(next) = cycle(&book, set) else {
-                continue;
-            };
-            if seen.insert(key(&next)) {
-                books.push((next, at, set.clone()));
-            }
-        }
-        at += 1;
     }
     worst
 }
 
 /// The offers of the list that leads to this book, then those that keep f waiting longest.
-fn list(
-    search: &mut Search,
-    books: &[(Book, usize, Vec<u32>)],
-    mut at: usize,
-    offered: Book,
-) -> Vec<Vec<u32>> {
+fn list(search: &mut Search, books: &[Reached], mut at: usize, offered: Book) -> Vec<Vec<u32>> {
     let mut offers = Vec::new();
     while at > 0 {
-        offers.push(books[at].2.clone());
-        at = books[at].1;
+        offers.push(books[at].entered.clone());
+        at = books[at].before;
     }
     offers.reverse();
     let mut book = offered;
