@@ -63,14 +63,20 @@ fn on_file(case: &Case, call: Call) -> Copied {
     Copied { call, file: case.file.clone(), ..Copied::default() }
 }
 
-/// Window of each flow, and the bounds of the whole listing.
+/// Window and flight bound of each flow, and the bounds of the whole listing.
 pub fn bounds(sides: Sides, first: Engine, second: Engine) {
     let loads = [Load::Light, Load::Slow, Load::Climbing, Load::Saturated];
     sides.print_header();
     for case in cases(sides, first, second, &loads) {
         let (flows, lent) = (case.flows, on_file(&case, Call::Notes));
-        let windows = |host| batch(host, lent.clone(), flows, |lent, at| lent.call = window(at));
-        print_row("window", &case, sides.alternate(flows, windows(first), windows(second)));
+        let of_flows: [(&str, Change); 2] = [
+            ("window", |lent, at| lent.call = window(at)),
+            ("flight", |lent, at| lent.call = flight(at)),
+        ];
+        for (name, change) in of_flows {
+            let row = |host| batch(host, lent.clone(), flows, change);
+            print_row(name, &case, sides.alternate(flows, row(first), row(second)));
+        }
         let bounds = |host| batch(host, lent.clone(), 1 + 2 * flows, next_bound);
         print_row("bounds", &case, sides.alternate(1, bounds(first), bounds(second)));
     }
@@ -80,12 +86,16 @@ fn window(flow: usize) -> Call {
     Call::Window(flow as u32)
 }
 
+fn flight(flow: usize) -> Call {
+    Call::Flight(flow as u32)
+}
+
 /// The notes, then window and flight bound of each flow.
 fn next_bound(lent: &mut Lent, at: usize) {
     lent.call = match at {
         0 => Call::Notes,
         _ if at % 2 == 1 => window(at / 2),
-        _ => Call::Flight((at / 2 - 1) as u32),
+        _ => flight(at / 2 - 1),
     };
 }
 

@@ -3,33 +3,53 @@
 use super::plan::{File, numbers, read};
 use super::{offset, refused};
 
-/// The spread of a flow at the source (x, y) of another whose port is E or S.
-fn spread(file: &File, x: u32, y: u32, east: bool, g: [u32; 6]) -> Option<u32> {
+/// A flow's row in its bit, unless the flow goes straight down its column.
+fn turn(&[xs, ys, xd, ..]: &[u8; 8]) -> u32 {
+    ((xs != xd) as u32) << (ys & 15)
+}
+
+/// For each column the rows that turn for it, row y in bit y.
+fn turning(file: &File) -> [u32; 16] {
+    let mut rows = [0; 16];
+    for record in file.records {
+        rows[(record[2] & 15) as usize] |= turn(record);
+    }
+    rows
+}
+
+/// How many of these rows are among the first r south of row y: the word twice in a row, from bit y + 1 on.
+fn among(rows: u32, sy: u32, y: u32, r: u32) -> u32 {
+    let south = (rows | rows << sy) >> (y + 1);
+    (south & ((1 << r) - 1)).count_ones()
+}
+
+/// The spread of a flow at the source (x, y) of another whose port is E or S. These rows turn for it.
+fn spread(file: &File, rows: u32, [x, y]: [u32; 2], east: bool, g: [u32; 6]) -> Option<u32> {
     let [xs, ys, xd, yd, ..] = g;
     if xs == x && ys == y {
         return Some(0);
     }
     let r = offset(ys, y, file.sy);
-    if !east {
-        return (xd == x && r <= offset(ys, yd, file.sy)).then_some(r * file.sx);
-    }
-    if r == 0 {
+    if east && r == 0 {
         let j = offset(xs, x, file.sx);
         return (1 <= j && j <= offset(xs, xd, file.sx)).then_some(0);
     }
-    (r <= offset(ys, yd, file.sy)).then_some((r - 1) * file.sx)
+    let (meets, passed) = if east { (rows >> y & 1 == 1, r - 1) } else { (xd == x, r) };
+    (meets && r <= offset(ys, yd, file.sy)).then(|| among(rows, file.sy, ys, passed) * file.sx)
 }
 
 /// The least window: after a failed t the next to try is I(t) + 1, since I never falls.
 /// Where the rivals' rates fill the link there is none.
 fn least_window(file: &File, f: usize) -> Option<u32> {
+    let turning = turning(file);
     let [x, y, xd, ..] = numbers(&file.records[f]);
     let mut rivals = [(0, 1); 256];
     let (mut count, mut burst, mut rates) = (0, 0, 0u64);
     for (g, record) in file.records.iter().enumerate() {
         let flow = numbers(record);
         if g != f
-            && let Some(spread) = spread(file, x, y, x != xd, flow)
+            && let Some(spread) =
+                spread(file, turning[(flow[2] & 15) as usize], [x, y], x != xd, flow)
         {
             rivals[count] = (spread, flow[4]);
             count += 1;
@@ -75,7 +95,9 @@ pub fn flight(file: &[u8], flow: u32) -> u64 {
     };
     let [xs, ys, xd, yd, ..] = numbers(record);
     let (dx, dy) = (offset(xs, xd, file.sx), offset(ys, yd, file.sy));
-    (dx + dy + dy * file.sx + 2) as u64
+    let rows = file.records.iter().filter(|other| other[2] == record[2]).map(turn);
+    let most = among(rows.fold(0, |rows, row| rows | row), file.sy, ys, dy);
+    (dx + dy + most * file.sx + 2) as u64
 }
 
 pub fn notes(file: &[u8]) -> u64 {
