@@ -5,7 +5,9 @@ use super::simulator::{Fault, OneCall, Slip, in_call, slips};
 use second::lent::Part::Answer;
 use second::lent::{Call, Lent};
 use second::plan::{Flow, MOST_BYTES, Plan, TRAILER, read};
-use second::slips::refuted;
+use second::slips::rows::RowSlip;
+use second::slips::{Slip as WindowSlip, refuted};
+use second::turning::{most_deflections, turning_for};
 use second::window::{Rival, interference, least, rivals, window_call};
 
 const FLIGHT: Call = Call::Flight(0);
@@ -52,7 +54,7 @@ fn bound(lent: &mut Lent, bound: impl Fn(&Plan, usize) -> i64) -> u64 {
 fn flown(lent: &mut Lent, offsets: fn(&Plan, usize) -> (i64, i64)) -> u64 {
     bound(lent, |plan, f| {
         let (dx, dy) = offsets(plan, f);
-        dx + dy + dy * plan.sx + 2
+        dx + dy + turning_for(plan, f, dy) * plan.sx + 2
     })
 }
 
@@ -82,10 +84,7 @@ const FLIGHTS: &[Slip] = &[
         })
     }),
     ("Sy charged for a deflection", Answer, |lent| {
-        bound(lent, |plan, f| plan.dx(f) + plan.dy(f) + plan.dy(f) * plan.sy + 2)
-    }),
-    ("the last row spared", Answer, |lent| {
-        bound(lent, |plan, f| plan.dx(f) + plan.dy(f) + (plan.dy(f) - 1).max(0) * plan.sx + 2)
+        bound(lent, |plan, f| plan.dx(f) + plan.dy(f) + most_deflections(plan, f) * plan.sy + 2)
     }),
     ("counted as exit - entry", Answer, |lent| flown(lent, |plan, f| (plan.dx(f) - 2, plan.dy(f)))),
     ("a flow too many", Answer, |lent| match lent.call {
@@ -157,8 +156,7 @@ pub fn faults() -> Vec<Fault> {
         faults.extend(slips(call, READ));
     }
     faults.extend(records::of_call(WINDOW, &[Answer]));
-    for row in refuted() {
-        let slip = row.slip;
+    for slip in window_slips() {
         faults.push(in_call(WINDOW, format!("{slip:?}"), &[Answer], move |lent| {
             match (lent.call, read(lent.file)) {
                 (Call::Window(flow), Ok((plan, _))) if (flow as usize) < plan.flows.len() => {
@@ -168,5 +166,16 @@ pub fn faults() -> Vec<Fault> {
             }
         }));
     }
+    faults.extend(RowSlip::OF_FLIGHTS.map(|slip| {
+        in_call(FLIGHT, format!("{slip:?}"), &[Answer], move |lent| {
+            bound(lent, |plan, f| slip.flight_bound(plan, f))
+        })
+    }));
     faults
+}
+
+/// The slips of windows: those that lists refute, and those that only make windows larger.
+pub fn window_slips() -> impl Iterator<Item = WindowSlip> {
+    let refuted = refuted().into_iter().map(|row| row.slip);
+    refuted.chain(RowSlip::LARGER.map(WindowSlip::Rows))
 }

@@ -1,10 +1,10 @@
 //! Faults of the listing, as what it prints in place of the right text for a file.
 
-use super::bounds::past_the_last;
+use super::bounds::{past_the_last, window_slips};
 use super::records;
 use super::simulator::{Fault, Kind};
 use second::plan::{MOST_BYTES, change_records};
-use second::slips::refuted;
+use second::slips::rows::RowSlip;
 use second::window::{flight_bound, listing, listing_by, window};
 
 /// What a faulty listing prints for a file whose right listing is this text.
@@ -24,11 +24,15 @@ pub fn faults() -> Vec<Fault> {
     for &(name, misread) in records::FAULTS {
         faults.push(printing(name, move |file| listing(&change_records(file, misread))));
     }
-    for row in refuted() {
-        let rule = move |plan: &_, f| row.slip.window(plan, f);
-        faults.push(printing(&format!("{:?}", row.slip), move |file| {
-            listing_by(file, rule, flight_bound)
-        }));
+    for slip in window_slips() {
+        let rule = move |plan: &_, f| slip.window(plan, f);
+        faults
+            .push(printing(&format!("{slip:?}"), move |file| listing_by(file, rule, flight_bound)));
+    }
+    for slip in RowSlip::OF_FLIGHTS {
+        let rule = move |plan: &_, f| slip.flight_bound(plan, f);
+        let name = format!("{slip:?} in flights");
+        faults.push(printing(&name, move |file| listing_by(file, window, rule)));
     }
     faults
 }

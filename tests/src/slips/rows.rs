@@ -1,4 +1,4 @@
-//! Slips in U8's turning rows, for windows and for flight bounds. Some only make a bound larger: no list refutes those.
+//! Slips in U8's turning rows, for windows and for flight bounds.
 
 use crate::plan::{Plan, Port};
 use crate::turning::is_turning;
@@ -34,6 +34,26 @@ pub enum RowSlip {
 }
 
 impl RowSlip {
+    /// Those that only make windows larger: no list refutes them.
+    pub const LARGER: [RowSlip; 4] = [
+        RowSlip::RowNotNeeded,
+        RowSlip::StraightCounted,
+        RowSlip::SourceRowCounted,
+        RowSlip::EveryRow,
+    ];
+
+    /// Those that a flight bound may have.
+    pub const OF_FLIGHTS: [RowSlip; 8] = [
+        RowSlip::SouthOneRowLess,
+        RowSlip::SourceColumnCounted,
+        RowSlip::StraightCounted,
+        RowSlip::SourceRowCounted,
+        RowSlip::FromSourceRow,
+        RowSlip::Northward,
+        RowSlip::NoWrap,
+        RowSlip::EveryRow,
+    ];
+
     /// The spread of g at f's source with this slip.
     pub fn spread(self, plan: &Plan, f: usize, g: usize) -> Option<i64> {
         spread_by(plan, f, g, self.row_turns(plan, f, g), |r| self.rows(plan, f, g, r))
