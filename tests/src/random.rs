@@ -72,7 +72,8 @@ fn long_period(random: &mut Random) -> i64 {
 
 /// A plan on an sx by sy torus. Clients are shared by several flows, some flows are
 /// self-addressed; periods and bursts are small, large or at their ends. Some plans have slow flows
-/// among the others.
+/// among the others, some have few destination columns, for which many rows turn, and some mostly flows straight down
+/// their column.
 pub fn plan(random: &mut Random, sx: i64, sy: i64, flows: usize) -> Plan {
     let clients = random.from(1, flows as i64) as usize;
     let places: Vec<_> =
@@ -80,13 +81,19 @@ pub fn plan(random: &mut Random, sx: i64, sy: i64, flows: usize) -> Plan {
     let longest = random.pick(&[1, 3, 12, 60, 600, 65_535]);
     let largest = random.pick(&[1, 2, 4, 255]);
     let slow = random.pick(&[0, 0, 0, 0, 10, 60]);
+    let straight = random.pick(&[0, 0, 0, 30, 70]);
+    let columns: Vec<_> = match random.pick(&[0, 0, 0, 1, 2]) {
+        0 => (0..sx).collect(),
+        few => (0..few).map(|_| random.from(0, sx - 1)).collect(),
+    };
     let mut flow = || {
         let (xs, ys) = random.pick(&places);
         let (xd, yd) = match random.from(0, 9) {
             0 => (xs, ys),
             1 => (xs, random.from(0, sy - 1)),
             2 => random.pick(&places),
-            _ => (random.from(0, sx - 1), random.from(0, sy - 1)),
+            _ if random.percent(straight) => (xs, random.from(0, sy - 1)),
+            _ => (random.pick(&columns), random.from(0, sy - 1)),
         };
         let period = if random.percent(slow) {
             long_period(random)

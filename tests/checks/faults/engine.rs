@@ -2,10 +2,12 @@
 
 use super::records;
 use super::simulator::{Fault, OneCall, Slip, refused, slips};
+use second::book::Book;
 use second::lent::Part::{Answer, Delivery, File, State, Target};
 use second::lent::{Call, Lent};
 use second::plan::{RECORD, change_records};
 use second::state::{HEADER, PER_FLOW, judge};
+use second::turning::most_deflections;
 
 /// P, σ, tokens and count of the flows that the words say there are.
 fn buckets(words: &mut [u32]) -> impl Iterator<Item = &mut [u32]> {
@@ -85,7 +87,14 @@ fn judged(lent: &mut Lent, change: fn(&mut [u32])) -> u64 {
     }
 }
 
-/// Faults that each call that judges the words of a state may have: a bucket judged as though it were another.
+/// Does the state hold a packet with more deflections than there are turning rows?
+fn passes_the_count(book: Book) -> bool {
+    let lines = book.placed.iter().map(|&line| &book.lines[line]);
+    lines.into_iter().any(|line| line.d > most_deflections(&book.plan, line.flow))
+}
+
+/// Faults that each call that judges the words of a state may have: a bucket judged as though it were another, or D by
+/// what holds from reset alone.
 const JUDGED: &[Slip] = &[
     ("a period of 2^24 taken", Answer, |lent| {
         judged(lent, |bucket| bucket[0] -= (bucket[0] == 1 << 24) as u32)
@@ -101,6 +110,10 @@ const JUDGED: &[Slip] = &[
     }),
     ("a count over 65,535 refused", Answer, |lent| {
         judged(lent, |bucket| bucket[0] *= (bucket[3] <= 65_535) as u32)
+    }),
+    ("D over the turning rows refused", Answer, |lent| {
+        let is_barred = lent.number() == 0 && judge(lent.state).is_ok_and(passes_the_count);
+        if is_barred { refused(9, 0) } else { lent.right() }
     }),
 ];
 

@@ -6,6 +6,7 @@ use second::lent::{Call, Lent};
 use second::plan::Plan;
 use second::recent::{Kept, Record, feed, flight, groups, held, holding, is_of_plan};
 use second::state::judge;
+use second::turning::most_deflections;
 
 /// The deliveries kept at most.
 fn last(lent: &Lent) -> u32 {
@@ -202,6 +203,12 @@ pub const FAULTS: &[Slip] = &[
         judged_by(lent, |plan, group| {
             let (dx, d) = (plan.dx(group[0] as usize), group[4] as i64);
             d <= dx && flight(group) == offsets(plan, group) + d * plan.sx + 2
+        })
+    }),
+    ("D compared with the turning rows", Answer, |lent| {
+        judged_by(lent, |plan, group| {
+            let most = most_deflections(plan, group[0] as usize);
+            is_of_plan(plan, group) && group[4] as i64 <= most
         })
     }),
     ("D not compared", Answer, |lent| {

@@ -1,6 +1,6 @@
 //! The bounds part: window, flight bound and notes.
 
-use super::{Memory, Run, periods, plans};
+use super::{Memory, Run, periods, plans, turning};
 use crate::lent::Call;
 use crate::plan::{Flow, Plan};
 use crate::random;
@@ -34,8 +34,8 @@ fn offsets(run: &mut Run) {
     }
 }
 
-/// Every boundary, the plans that refute a slipped window, slow rivals, every offset, and filled links, once. The
-/// windows of the files at a boundary, which take longest to find, come late.
+/// Every boundary, the plans that refute a slipped window, slow rivals, every offset, rows that turn, and filled links,
+/// once. The windows of the files at a boundary, which take longest to find, come late.
 pub fn boundaries(run: &mut Run) {
     let mut files: Vec<_> =
         plans::at_boundaries().iter().map(|file| Memory::of_file(file)).collect();
@@ -52,6 +52,7 @@ pub fn boundaries(run: &mut Run) {
         }
     }
     offsets(run);
+    turning::boundaries(run);
     for memory in &mut files {
         run.accepts(Call::Window(0), memory);
     }
@@ -69,9 +70,13 @@ pub fn round(run: &mut Run, sx: i64, sy: i64) {
     for flow in (0..flows as u32).chain([flows as u32, flows as u32 + 1, u32::MAX]) {
         notes_and_flight(run, memory, flow);
     }
+    (0..flows).for_each(|flow| run.tally.turning.count_bound(&plan, flow));
     for _ in 0..4 {
-        let flow = run.random.index(flows + 1) as u32;
-        all_three(run, memory, flow);
+        let flow = run.random.index(flows + 1);
+        all_three(run, memory, flow as u32);
+        if flow < flows {
+            run.tally.turning.count_conflicts(&plan, flow);
+        }
     }
     for _ in 0..20 {
         let mut damaged = file.clone();

@@ -19,10 +19,12 @@ pub mod sets;
 pub mod states;
 pub mod steps;
 pub mod trial;
+pub mod turning;
 mod twin;
 
 pub use run::{Other, Others, Run};
 use std::collections::BTreeMap;
+use turning::Changes;
 pub use twin::{Memory, Twin};
 
 /// What has been compared so far.
@@ -33,12 +35,20 @@ pub struct Tally {
     pub answers: BTreeMap<(&'static str, u64), u64>,
     /// How often each reason of a flow, 0 to 5, was told.
     pub reasons: [u64; 6],
+    /// How turning rows changed the bounds of random plans.
+    pub turning: Changes,
     pub words: u64,
 }
 
 impl Tally {
     pub fn new(seed: u64) -> Tally {
-        Tally { seed, answers: BTreeMap::new(), reasons: [0; 6], words: 0 }
+        Tally {
+            seed,
+            answers: BTreeMap::new(),
+            reasons: [0; 6],
+            turning: Changes::default(),
+            words: 0,
+        }
     }
 
     pub fn calls(&self) -> u64 {

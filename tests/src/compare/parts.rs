@@ -29,6 +29,9 @@ pub fn bounds_of(others: &mut Others, seed: u64, extent: Extent) -> Tally {
     rounds("bounds", &mut tally, extent, |tally, random, sx, sy| {
         bounds::round(&mut Run { others, tally, random }, sx, sy);
     });
+    if let Extent::Gate = extent {
+        tally.turning.came_up_often();
+    }
     all_came_up(&tally, true);
     tally
 }

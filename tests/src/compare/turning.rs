@@ -1,0 +1,114 @@
+//! Rows that turn, by U8: plans in which each row in turn is the one that does, the widest spreads, and how often turning
+//! rows changed the bounds of random plans.
+
+use super::{Memory, Run};
+use crate::lent::Call;
+use crate::plan::Plan;
+use crate::slips::rows::RowSlip;
+use crate::window::{flight_bound, spread, spread_of_01};
+use std::ops::Range;
+
+/// A flow of row y that turns into column 0.
+fn turn(y: i64) -> [i64; 6] {
+    [1, y, 0, y, 600, 1]
+}
+
+fn compare(run: &mut Run, plan: &Plan, flow: usize) {
+    let memory = &mut Memory::of_file(&plan.file(&[]));
+    run.accepts(Call::Window(flow as u32), memory);
+    run.accepts(Call::Flight(flow as u32), memory);
+}
+
+/// A rival goes down column 0 past flow 0, at whose source it is by port E or S, and one row turns. Its period is 2, so
+/// that T tells its spread. These are the rows of its source, and all others.
+fn one_row(run: &mut Run, sy: i64, sources: Range<i64>) {
+    let rows = |sources: Range<i64>| {
+        let pair = move |ys| (0..sy).map(move |yd| (ys, yd));
+        sources.flat_map(pair)
+    };
+    for (ys, yd) in rows(sources) {
+        for (y, turning) in rows(0..sy) {
+            for f in [[0, y, 0, y, 9, 1], [1, y, 0, y, 9, 1], [1, y, 2, y, 9, 1]] {
+                let plan = Plan::of(3, sy, &[f, [0, ys, 0, yd, 2, 1], turn(turning)]);
+                compare(run, &plan, 0);
+            }
+            let plan = Plan::of(3, sy, &[[0, ys, 0, yd, 2, 1], turn(y), turn(turning)]);
+            compare(run, &plan, 0);
+        }
+    }
+}
+
+/// As many rows as there are but for one turn: the widest spread, and one row less, by each port; the longest flight.
+fn many_rows(run: &mut Run) {
+    for spared in 0..16 {
+        for y in 0..16 {
+            let mut flows = vec![[0, y, 0, y, 9, 1], [2, y, 3, y, 9, 1]];
+            let first = (y + 1) % 16;
+            flows.push([0, first, 0, y, 2, 1]);
+            flows.push([0, y, 0, (y + 15) % 16, 2, 1]);
+            flows.extend((0..16).filter(|&row| row != spared).map(turn));
+            let plan = Plan::of(16, 16, &flows);
+            (0..4).for_each(|flow| compare(run, &plan, flow));
+        }
+    }
+}
+
+pub fn boundaries(run: &mut Run) {
+    for sy in 1..=4 {
+        one_row(run, sy, 0..sy);
+    }
+    one_row(run, 16, 13..14);
+    many_rows(run);
+}
+
+/// How often turning rows changed the bounds of a flow or its conflicts with others, beside 01's, and how often not.
+#[derive(Clone, Copy, Default)]
+pub struct Changes {
+    dropped: u64,
+    smaller_spread: u64,
+    same_spread: u64,
+    smaller_bound: u64,
+    same_bound: u64,
+}
+
+impl Changes {
+    /// Counts what became of flow f's conflicts.
+    pub fn count_conflicts(&mut self, plan: &Plan, f: usize) {
+        for g in 0..plan.flows.len() {
+            match (spread_of_01(plan, f, g), spread(plan, f, g)) {
+                (Some(_), None) => self.dropped += 1,
+                (Some(0), _) | (None, _) => {}
+                (Some(before), Some(now)) if now < before => self.smaller_spread += 1,
+                _ => self.same_spread += 1,
+            }
+        }
+    }
+
+    /// Counts what became of flow f's flight bound.
+    pub fn count_bound(&mut self, plan: &Plan, f: usize) {
+        let (before, now) = (RowSlip::EveryRow.flight_bound(plan, f), flight_bound(plan, f));
+        if now < before {
+            self.smaller_bound += 1;
+        } else if plan.dy(f) > 0 {
+            self.same_bound += 1;
+        }
+    }
+
+    /// Each with what it is.
+    pub fn counts(&self) -> [(&'static str, u64); 5] {
+        [
+            ("conflicts dropped, the row doesn't turn", self.dropped),
+            ("spreads smaller than every row's", self.smaller_spread),
+            ("spreads of every row", self.same_spread),
+            ("flight bounds smaller than every row's", self.smaller_bound),
+            ("flight bounds of every row", self.same_bound),
+        ]
+    }
+
+    /// Each came up often in the gate's rounds.
+    pub fn came_up_often(&self) {
+        for (change, count) in self.counts() {
+            assert!(count >= 100, "{change}: came up {count} times");
+        }
+    }
+}
