@@ -1,5 +1,6 @@
 //! The calls in plain Rust: the honest baseline. Written for speed, with every check of 01's
-//! table, of U1, U4, U6 and U7, and with U5's periods and U8's turning rows, on the same memory; safe Rust with no heap.
+//! table, of U1, U4, U6 and U7, and with U5's periods and U8's turning rows, on the same memory; safe Rust with no
+//! heap.
 
 mod bounds;
 mod files;

@@ -1,5 +1,5 @@
-//! Rows that turn, by U8: plans in which each row in turn is the one that does, the widest spreads, and how often turning
-//! rows changed the bounds of random plans.
+//! Rows that turn, by U8: plans in which one row does, each in its turn, or all but one do, and how often turning rows
+//! changed the bounds of random plans.
 
 use super::{Memory, Run};
 use crate::lent::Call;
@@ -19,8 +19,9 @@ fn compare(run: &mut Run, plan: &Plan, flow: usize) {
     run.accepts(Call::Flight(flow as u32), memory);
 }
 
-/// A rival goes down column 0 past flow 0, at whose source it is by port E or S, and one row turns. Its period is 2, so
-/// that T tells its spread. These are the rows of its source, and all others.
+/// A rival goes down column 0 from one of these rows to any, flow 0 starts in any row, and any row turns. The rival's
+/// period is 2, so that T tells its spread. Flow 0 has port S, or port E and turns its row for the rival or doesn't; or
+/// it is the rival itself, with two rows that turn.
 fn one_row(run: &mut Run, sy: i64, sources: Range<i64>) {
     let rows = |sources: Range<i64>| {
         let pair = move |ys| (0..sy).map(move |yd| (ys, yd));
@@ -38,7 +39,7 @@ fn one_row(run: &mut Run, sy: i64, sources: Range<i64>) {
     }
 }
 
-/// As many rows as there are but for one turn: the widest spread, and one row less, by each port; the longest flight.
+/// All rows but one turn, so that spreads and flights are the widest and longest, or one row less.
 fn many_rows(run: &mut Run) {
     for spared in 0..16 {
         for y in 0..16 {
