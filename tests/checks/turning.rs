@@ -2,6 +2,7 @@
 //! plans beside 01's own windows and bounds.
 
 use second::calls::step;
+use second::compare::turning::all_but;
 use second::plan::Plan;
 use second::random::{Random, any_plan};
 use second::slips::rows::RowSlip;
@@ -73,6 +74,19 @@ fn an_e_conflict_needs_the_row_to_turn() {
     assert_eq!(spread_with(&[[3, 2, 1, 2, 9, 1]]), Some(0));
     assert_eq!(spread_with(&[[3, 2, 1, 2, 9, 1], [3, 1, 1, 1, 9, 1]]), Some(4));
     assert_eq!(spread_with(&[[3, 2, 1, 2, 9, 1], [3, 0, 1, 0, 9, 1]]), Some(0));
+}
+
+/// With 15 rows that turn, J is 15 × 16 at port S and 14 × 16 at port E, and a flight has 15 deflections.
+#[test]
+fn the_widest_spreads() {
+    for y in 0..16 {
+        let plan = all_but((y + 1) % 16, y);
+        assert_eq!([0, 1].map(|f| spread(&plan, f, 2)), [Some(240), Some(224)]);
+        assert_eq!([0, 1].map(|f| window(&plan, f)), [Some(251), Some(231)]);
+        let plan = all_but(y, y);
+        assert_eq!([0, 1].map(|f| spread(&plan, f, 2)), [Some(224), None]);
+        assert_eq!(flight_bound(&plan, 3), 257);
+    }
 }
 
 /// f itself makes its row turn. g itself never does for its own packets: its row is none of those south of it.

@@ -13,6 +13,11 @@ fn turn(y: i64) -> [i64; 6] {
     [1, y, 0, y, 600, 1]
 }
 
+/// Each of these rows with every row.
+fn pairs(rows: Range<i64>, sy: i64) -> impl Iterator<Item = (i64, i64)> {
+    rows.flat_map(move |row| (0..sy).map(move |other| (row, other)))
+}
+
 fn compare(run: &mut Run, plan: &Plan, flow: usize) {
     let memory = &mut Memory::of_file(&plan.file(&[]));
     run.accepts(Call::Window(flow as u32), memory);
@@ -23,12 +28,8 @@ fn compare(run: &mut Run, plan: &Plan, flow: usize) {
 /// period is 2, so that T tells its spread. Flow 0 has port S, or port E and turns its row for the rival or doesn't; or
 /// it is the rival itself, with two rows that turn.
 fn one_row(run: &mut Run, sy: i64, sources: Range<i64>) {
-    let rows = |sources: Range<i64>| {
-        let pair = move |ys| (0..sy).map(move |yd| (ys, yd));
-        sources.flat_map(pair)
-    };
-    for (ys, yd) in rows(sources) {
-        for (y, turning) in rows(0..sy) {
+    for (ys, yd) in pairs(sources, sy) {
+        for (y, turning) in pairs(0..sy, sy) {
             for f in [[0, y, 0, y, 9, 1], [1, y, 0, y, 9, 1], [1, y, 2, y, 9, 1]] {
                 let plan = Plan::of(3, sy, &[f, [0, ys, 0, yd, 2, 1], turn(turning)]);
                 compare(run, &plan, 0);
@@ -39,19 +40,17 @@ fn one_row(run: &mut Run, sy: i64, sources: Range<i64>) {
     }
 }
 
-/// All rows but one turn, so that spreads and flights are the widest and longest, or one row less.
-fn many_rows(run: &mut Run) {
-    for spared in 0..16 {
-        for y in 0..16 {
-            let mut flows = vec![[0, y, 0, y, 9, 1], [2, y, 3, y, 9, 1]];
-            let first = (y + 1) % 16;
-            flows.push([0, first, 0, y, 2, 1]);
-            flows.push([0, y, 0, (y + 15) % 16, 2, 1]);
-            flows.extend((0..16).filter(|&row| row != spared).map(turn));
-            let plan = Plan::of(16, 16, &flows);
-            (0..4).for_each(|flow| compare(run, &plan, flow));
-        }
-    }
+/// All rows but one turn for column 0, down which flow 2 goes as far as it can to row y. There flow 0 meets it by port S,
+/// flow 1 by port E, and flow 3 starts and goes as far.
+pub fn all_but(spared: i64, y: i64) -> Plan {
+    let mut flows = vec![
+        [0, y, 0, y, 9, 1],
+        [2, y, 3, y, 9, 1],
+        [0, (y + 1) % 16, 0, y, 2, 1],
+        [0, y, 0, (y + 15) % 16, 600, 1],
+    ];
+    flows.extend((0..16).filter(|&row| row != spared).map(turn));
+    Plan::of(16, 16, &flows)
 }
 
 pub fn boundaries(run: &mut Run) {
@@ -59,7 +58,9 @@ pub fn boundaries(run: &mut Run) {
         one_row(run, sy, 0..sy);
     }
     one_row(run, 16, 13..14);
-    many_rows(run);
+    for (spared, y) in pairs(0..16, 16) {
+        (0..4).for_each(|flow| compare(run, &all_but(spared, y), flow));
+    }
 }
 
 /// How often turning rows changed the bounds of a flow or its conflicts with others, beside 01's, and how often not.
