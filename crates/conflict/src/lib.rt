@@ -25,18 +25,16 @@ fn conflict_east(sx: u32, sy: u32, word: u32, f: Flow, g: Flow) -> Conflict
         if columns < 1 {
             return Conflict::Free;
         }
-        if g.offset_x(sx) < columns {
-            return Conflict::Free;
+        if torus::on_way(sx, g.xs, f.xs, g.xd) {
+            return Conflict::Spread(0);
         }
-        return Conflict::Spread(0);
-    }
-    if !turning::has_row(word, f.ys) {
         return Conflict::Free;
     }
-    if g.offset_y(sy) < rows {
-        return Conflict::Free;
+    let passes = torus::on_way(sy, g.ys, f.ys, g.yd);
+    if passes & turning::has_row(word, f.ys) {
+        return Conflict::Spread(turning::rows_south(sy, word, g.ys, rows - 1) * sx);
     }
-    Conflict::Spread(turning::rows_south(sy, word, g.ys, rows - 1) * sx)
+    Conflict::Free
 }
 
 // f's port is S and g's client is another.
@@ -47,12 +45,11 @@ fn conflict_south(sx: u32, sy: u32, word: u32, f: Flow, g: Flow) -> Conflict
     if g.xd != f.xs {
         return Conflict::Free;
     }
-    let rows = torus::offset(sy, g.ys, f.ys);
-    let dy = g.offset_y(sy);
-    if dy < rows {
-        return Conflict::Free;
+    if torus::on_way(sy, g.ys, f.ys, g.yd) {
+        let rows = torus::offset(sy, g.ys, f.ys);
+        return Conflict::Spread(turning::rows_south(sy, word, g.ys, rows) * sx);
     }
-    Conflict::Spread(turning::rows_south(sy, word, g.ys, rows) * sx)
+    Conflict::Free
 }
 
 // How g, a flow other than f, conflicts with f at f's source, by f's port and the rows that turn for g's destination column.

@@ -6,7 +6,8 @@ use Prim.Native.Nat.{ℕ, _+_, _-_, _*_, _%_, _≤_, _<_}
 use native.Mathlib.Nat.{mod-eq-of-lt, mod-lt, add-mod-right, add-mul-mod-self-right}
 use native.Mathlib.Decide.{decLe, ℕ-discrete}
 use native.Mathlib.Omega.{arith}
-use borrow.Author.Tests.{eq-eqb, ne-eqb}
+use borrow.Author.Tests.{eq-eqb, ne-eqb, lt-ltb, le-ltb, le-leb, lt-leb}
+use lib.Dec.{ltb, leb}
 use Rattle.torus.specs.Axis.{offset, next, lap, previous}
 
 -- one remainder and no branch: with a size more, the difference never passes below 0
@@ -42,6 +43,32 @@ offset-cases size from to f t =
 pub offset-below : (size from to : ℕ) → from < size → to < size → offset size from to < size
 unfolding offset
 offset-below size from to f t = mod-lt _ (omega arith)
+
+-- by a third place it is as far, or once round more
+offset-by : (size from at to : ℕ) → from < size → at < size → to < size
+    → (offset size from at + offset size at to ≡ offset size from to) ⊎ (offset size from at + offset size at to ≡ offset size from to + size)
+offset-by size from at to f a t =
+    elim (offset-cases size from at f a) [
+      | inl h ↦ elim (offset-cases size at to a t) [
+        | inl k ↦ elim (offset-cases size from to f t) [ inl w ↦ inl (omega arith) | inr w ↦ absurd (omega arith) ]
+        | inr k ↦ elim (offset-cases size from to f t) [ inl w ↦ inr (omega arith) | inr w ↦ inl (omega arith) ]
+      ]
+      | inr h ↦ elim (offset-cases size at to a t) [
+        | inl k ↦ elim (offset-cases size from to f t) [ inl w ↦ inr (omega arith) | inr w ↦ inl (omega arith) ]
+        | inr k ↦ elim (offset-cases size from to f t) [ inl w ↦ absurd (omega arith) | inr w ↦ inr (omega arith) ]
+      ]
+    ]
+
+-- a place lies on the way to another where the rest of the way from it doesn't go round
+pub on-way : (size from at to : ℕ) → from < size → at < size → to < size
+    → ltb (offset size from at) (size - offset size at to) ≡ leb (offset size from at) (offset size from to)
+on-way size from at to f a t =
+    let whole = offset-below size from to f t in
+    let rest = offset-below size at to a t in
+    elim (offset-by size from at to f a t) [
+      | inl on ↦ rw (lt-ltb (offset size from at) (size - offset size at to) (omega arith), le-leb (offset size from at) (offset size from to) (omega arith))
+      | inr off ↦ rw (le-ltb (offset size from at) (size - offset size at to) (omega arith), lt-leb (offset size from at) (offset size from to) (omega arith))
+    ]
 
 -- the place after the last is 0
 pub next-cases : (size at : ℕ) → at < size

@@ -1,6 +1,7 @@
 // The torus: offsets and neighbours along one row or column. Rests on laws.
 ghost use mathlib.Core.Path.{_≡_};
 ghost use Prim.Native.Nat.{_<_};
+ghost use lib.Dec.{leb};
 ghost use Rattle.torus.specs.Axis.{offset, next, lap};
 
 // How far `to` lies after `from`, going round: 01's (to − from) mod size, by one comparison. For r, j and laps; ΔX and ΔY are
@@ -16,7 +17,15 @@ pub fn offset(size: u32, from: u32, to: u32) -> u32
     }
 }
 
-// The same, read as the size if it is 0.
+// Whether `at` lies on the way from `from` to `to`, going round: no further after `from` than `to`.
+pub fn on_way(size: u32, from: u32, at: u32, to: u32) -> bool
+    requires { ⌜ (from < size) × ((at < size) × (to < size)) ⌝ }
+    ensures { λ r. ⌜ r ≡ leb (offset size from at) (offset size from to) ⌝ }
+{
+    offset(size, from, at) < size - offset(size, at, to)
+}
+
+// The offset, read as the size if it is 0.
 pub fn lap(size: u32, from: u32, to: u32) -> u32
     requires { ⌜ (from < size) × (to < size) ⌝ }
     ensures { λ r. ⌜ r ≡ lap size from to ⌝ }

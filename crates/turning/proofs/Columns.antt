@@ -1,6 +1,6 @@
 -- The columns' words, flow by flow: each flow keeps what they tell, and after all flows they tell the turning rows. A word counted in
 -- bits counts its rows. Rests on the laws of bits.
-use mathlib.Core.Bool.{Bool, false, not, _||_, and-true, and-false, or-false}
+use mathlib.Core.Bool.{Bool, false, not, cond, _||_, and-true, and-false, or-false}
 use mathlib.Core.List.{List, [], _∷_}
 use mathlib.Core.Logic.{inl, inr, _≢_}
 use mathlib.Core.Path.{_≡_, refl, sym, ap, _∙_}
@@ -72,20 +72,9 @@ by-all p x y = ap (any (turnsInto x y)) (sym (is-tabulate (p .flows) (length (p 
 pub told-all : (p : Plan) (columns : List ℕ) → TurningBy p (length (p .flows)) columns → TurningIn p columns
 told-all p columns h = record { long = h .long; small = h .small; told = λ x y l k. h .told x y l k ∙ by-all p x y }
 
--- a flow that starts in its destination column turns nowhere
-straight : (f : Flow) (x y : ℕ) → f .xs ≡ f .xd → turnsInto x y f ≡ false
-straight f x y e =
-    elim (test (eqb (f .xd) x)) [
-      | inl at ↦ rw (e, at) (and-false (eqb (f .ys) y))
-      | inr other ↦ rw (e, other) (and-false (eqb (f .ys) y))
-    ]
-
+-- a flow turns no row into a column that isn't its destination's
 elsewhere : (f : Flow) (x y : ℕ) → x ≢ f .xd → turnsInto x y f ≡ false
 elsewhere f x y e = rw (ne-eqb (f .xd) x (λ q. e (sym q)), and-false (not (eqb (f .xs) x))) (and-false (eqb (f .ys) y))
-
--- any other turns its source row into its destination column
-turns-there : (f : Flow) (y : ℕ) → f .xs ≢ f .xd → turnsInto (f .xd) y f ≡ eqb (f .ys) y
-turns-there f y e = rw (ne-eqb (f .xs) (f .xd) e, eq-eqb (f .xd) (f .xd) refl) (and-true (eqb (f .ys) y))
 
 module _ (p : Plan) (n : ℕ) (ok : FlowOk (p .sx) (p .sy) (flowAt p n)) (columns : List ℕ) (h : TurningBy p n columns) where
   abbrev f : Flow
@@ -102,12 +91,31 @@ module _ (p : Plan) (n : ℕ) (ok : FlowOk (p .sx) (p .sy) (flowAt p n)) (column
   by-same : (x y : ℕ) → turnsInto x y f ≡ false → turnsBy p n x y ≡ turnsBy p (n + 1) x y
   by-same x y e = sym (or-false (turnsBy p n x y)) ∙ ap (λ (b : Bool). turnsBy p n x y || b) (sym e) ∙ by-more x y
 
-  -- the word of its destination column, with its source row
-  abbrev word : ℕ
-  word = bitOr (getD columns (f .xd) 0) (2 ^ f .ys)
+  -- its source row as a bit, where it turns
+  abbrev row : ℕ
+  row = cond (eqb (f .xs) (f .xd)) 0 (2 ^ f .ys)
 
-  turned : f .xs ≢ f .xd → TurningBy p (n + 1) (set columns (f .xd) word)
-  turned turns = record { long = rw length-set (h .long); small = small; told = told }
+  row-small : row < 2 ^ p .sy
+  row-small =
+      elim (test (eqb (f .xs) (f .xd))) [
+        | inl own ↦ rw own (pow-pos (p .sy))
+        | inr turns ↦ rw turns (pow-lt {i = f .ys} {j = p .sy} (ok .ys-on))
+      ]
+
+  row-told : (y : ℕ) → isSet row y ≡ turnsInto (f .xd) y f
+  row-told y =
+      elim (ℕ-discrete (f .xs) (f .xd)) [
+        | yes own ↦ rw (eq-eqb (f .xs) (f .xd) own, and-false (eqb (f .ys) y)) (set-none y)
+        | no turns ↦ rw (ne-eqb (f .xs) (f .xd) turns, eq-eqb (f .xd) (f .xd) refl, and-true (eqb (f .ys) y)) (set-power (f .ys) y)
+      ]
+
+  -- the word of its destination column with that bit
+  abbrev word : ℕ
+  word = bitOr (getD columns (f .xd) 0) row
+
+  pub told-more : TurningBy p (n + 1) (noted columns f)
+  unfolding noted
+  told-more = record { long = rw length-set (h .long); small = small; told = told }
     where
       room : f .xd < length columns
       room = omega (arith, ok .xd-on, h .long)
@@ -115,9 +123,7 @@ module _ (p : Plan) (n : ℕ) (ok : FlowOk (p .sx) (p .sy) (flowAt p n)) (column
       small : (x : ℕ) → x < p .sx → getD (set columns (f .xd) word) x 0 < 2 ^ p .sy
       small x l =
           elim (ℕ-discrete x (f .xd)) [
-            | yes own ↦
-                rw (own, getD-set-same columns (f .xd) word 0 room)
-                (or-lt (p .sy) _ _ (h .small (f .xd) (ok .xd-on)) (pow-lt {i = f .ys} {j = p .sy} (ok .ys-on)))
+            | yes own ↦ rw (own, getD-set-same columns (f .xd) word 0 room) (or-lt (p .sy) _ _ (h .small (f .xd) (ok .xd-on)) row-small)
             | no other ↦ rw (getD-set-other columns (f .xd) x word 0 other) (h .small x l)
           ]
 
@@ -125,23 +131,7 @@ module _ (p : Plan) (n : ℕ) (ok : FlowOk (p .sx) (p .sy) (flowAt p n)) (column
       told x y l k =
           elim (ℕ-discrete x (f .xd)) [
             | yes own ↦
-                rw (
-                  own,
-                  getD-set-same columns (f .xd) word 0 room,
-                  set-or (getD columns (f .xd) 0) (2 ^ f .ys) y,
-                  set-power (f .ys) y,
-                  h .told (f .xd) y (ok .xd-on) k,
-                  ← (turns-there f y turns),
-                ) (by-more (f .xd) y)
+                rw (own, getD-set-same columns (f .xd) word 0 room, set-or (getD columns (f .xd) 0) row y, h .told (f .xd) y (ok .xd-on) k, row-told y)
+                (by-more (f .xd) y)
             | no other ↦ rw (getD-set-other columns (f .xd) x word 0 other) (h .told x y l k ∙ by-same x y (elsewhere f x y other))
           ]
-
-  pub told-more : TurningBy p (n + 1) (noted columns f)
-  unfolding noted
-  told-more =
-      elim (ℕ-discrete (f .xs) (f .xd)) [
-        | yes own ↦
-            rw (eq-eqb (f .xs) (f .xd) own)
-            (record { long = h .long; small = h .small; told = λ x y l k. h .told x y l k ∙ by-same x y (straight f x y own) })
-        | no turns ↦ rw (ne-eqb (f .xs) (f .xd) turns) (turned turns)
-      ]

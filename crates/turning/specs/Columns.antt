@@ -33,4 +33,4 @@ TurningBy p n = Told (p .sx) (p .sy) (turnsBy p n)
 
 -- the flow's source row set in the word of its destination column, unless it starts in that column
 unfoldable pub noted : List ℕ → Flow → List ℕ
-noted columns f = cond (eqb (f .xs) (f .xd)) columns (set columns (f .xd) (bitOr (getD columns (f .xd) 0) (2 ^ f .ys)))
+noted columns f = set columns (f .xd) (bitOr (getD columns (f .xd) 0) (cond (eqb (f .xs) (f .xd)) 0 (2 ^ f .ys)))

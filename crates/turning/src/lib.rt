@@ -16,11 +16,9 @@ pub fn note(columns: &mut [u32], f: Flow)
     requires { ⌜ (f .xd < length (now columns)) × (f .ys < mostSize) ⌝ }
     ensures { λ _. ⌜ now (columns .exit) ≡ noted (now (columns .entry)) f ⌝ }
 {
-    if f.xs == f.xd {
-        return;
-    }
+    let row = if f.xs == f.xd { 0 } else { 1u32 << f.ys };
     let column = f.xd as usize;
-    columns[column] = columns[column] | (1u32 << f.ys);
+    columns[column] = columns[column] | row;
 }
 
 // Row y is in the word.

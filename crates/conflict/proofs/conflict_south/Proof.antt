@@ -1,7 +1,8 @@
--- `conflict_south`: the definition's own tests, on the offsets and rows that the calls return.
+-- `conflict_south`: the definition's own tests, on what the calls return.
 use mathlib.Core.Path.{ap}
 use Prim.Native.Nat.{ℕ, _*_}
 use borrow.Author.Needs.{needs}
+use borrow.Author.Tests.{eq-eqb}
 use native.Mathlib.Omega.{arith}
 use Rattle.laws.specs.Bits.{isSet}
 use Rattle.laws.proofs.Cases.{cases}
@@ -14,29 +15,35 @@ returns : tie.Need-returns
 unfolding conflictSouth
 returns c = search cases
 
-returns-2 : tie.Need-returns-2
-unfolding conflictSouth
-returns-2 c = search (cases, ← (c .before .before .offset .ensures), ← (c .before .offset-y .ensures))
-
 rows-south-requires : tie.Need-rows-south-requires
 rows-south-requires c κs =
-    let rows = c .before .before in
-    let p = rows .before .before .before .before .pre in
-    (p .0 .sy-most, (p .1, (p .0 .other .ys-on, omega (arith, rows .offset .ensures, rows-below _ _ _ _ (p .0)))))
+    let p = c .before .before .before .before .before .before .pre in
+    (p .0 .sy-most, (p .1, (p .0 .other .ys-on, omega (arith, c .offset .ensures, rows-below _ _ _ _ (p .0)))))
 
 mul-t10 : tie.Need-mul-t10
 mul-t10 c =
-    let rows = c .before .before .before in
-    let start = rows .before .before .before .before in
+    let rows = c .before in
+    let start = rows .before .before .before .before .before .before in
     let below = rows-below _ _ _ _ (start .pre .0) in
     let small = laps-most _ _ _ _ (start .pre .0) (isSet (start .args .word)) (rows .offset .result) (omega (arith, rows .offset .ensures)) in
     omega (arith, ap (λ (n : ℕ). n * start .args .sx) (c .rows-south .ensures))
 
+returns-2 : tie.Need-returns-2
+unfolding conflictSouth
+returns-2 c =
+    let way = c .before .before .before in
+    rw (
+      ← (way .on-way .ensures),
+      c .before .before .if2 .taken,
+      eq-eqb _ _ (way .before .if1 .left),
+      ← (c .before .offset .ensures),
+      ← (c .rows-south .ensures),
+    )
+
 returns-3 : tie.Need-returns-3
 unfolding conflictSouth
-returns-3 c =
-    search (cases, ← (c .before .before .before .offset .ensures), ← (c .before .before .offset-y .ensures), ← (c .rows-south .ensures))
+returns-3 c = rw (← (c .before .on-way .ensures), c .if2 .left, eq-eqb _ _ (c .before .before .if1 .left))
 
 pub conflict-south-spec : {M : Type 1} → statement M
 conflict-south-spec =
-    tie.close (tie.spec returns (λ c κs. search needs) (λ c κs. search needs) returns-2 rows-south-requires mul-t10 returns-3)
+    tie.close (tie.spec returns (λ c κs. search needs) (λ c κs. search needs) rows-south-requires mul-t10 returns-2 returns-3)
