@@ -30,8 +30,9 @@ fn conflict_east(sx: u32, sy: u32, word: u32, f: Flow, g: Flow) -> Conflict
         }
         return Conflict::Free;
     }
-    let passes = torus::on_way(sy, g.ys, f.ys, g.yd);
-    if passes & turning::has_row(word, f.ys) {
+    let on_way = torus::on_way(sy, g.ys, f.ys, g.yd);
+    let row = if on_way { f.ys } else { turning::NO_ROW };
+    if turning::has_row(word, row) {
         return Conflict::Spread(turning::rows_south(sy, word, g.ys, rows - 1) * sx);
     }
     Conflict::Free

@@ -3,15 +3,15 @@
 use mathlib.Core.Bool.{false, _||_}
 use mathlib.Core.Logic.{_≢_}
 use mathlib.Core.Path.{_≡_, refl, sym, ap, ap₂, _∙_}
-use Prim.Native.Nat.{ℕ, zero, suc, _+_, _-_, _*_, _/_, _%_, _^_, _<_}
-use native.Mathlib.Nat.{mod-lt, mod-eq-of-lt, mod-one, add-mod-left, div-eq-of-lt, zero-div, one-mul}
+use Prim.Native.Nat.{ℕ, zero, suc, _+_, _-_, _*_, _/_, _%_, _^_, _≤_, _<_}
+use native.Mathlib.Nat.{mod-lt, mod-eq-of-lt, mod-one, add-mod-left, div-eq-of-lt, zero-div, one-mul, lt-of-lt-of-le}
 use native.Mathlib.Decide.{ℕ-discrete, decLt}
 use native.Mathlib.Omega.{arith}
 use borrow.Author.Tests.{eq-eqb, ne-eqb}
 use lib.Bits.{bitOr, or-shr, or-mod, shifted-even}
 use lib.Count.{ones, ones-cat}
 use lib.Dec.{eqb}
-use lib.Pow.{pow-pos, pow-add, pow-lt, shr-shr, mod-pow-add, mod-mod-pow, field, high, low, shl-shr}
+use lib.Pow.{pow-mono, pow-pos, pow-add, pow-lt, shr-shr, mod-pow-add, mod-mod-pow, field, high, low, shl-shr}
 use Rattle.laws.specs.Bits.{isSet}
 use Rattle.laws.specs.Bounded.{sumBelow}
 use Rattle.laws.specs.Count.{one}
@@ -112,6 +112,11 @@ set-power j k =
       | yes same ↦ rw (eq-eqb j k same, same, own-bit k)
       | no other ↦ rw (ne-eqb j k other, other-bit j k other)
     ]
+
+-- a word of n bits has none above them
+pub set-above : (word n k : ℕ) → word < 2 ^ n → n ≤ k → isSet word k ≡ false
+unfolding isSet
+set-above word n k below above = rw (div-eq-of-lt {n = word} {m = 2 ^ k} (lt-of-lt-of-le below (pow-mono above)))
 
 pub set-none : (k : ℕ) → isSet 0 k ≡ false
 unfolding isSet

@@ -11,6 +11,9 @@ ghost use Rattle.turning.specs.Columns.{noted};
 // The words of all columns of the largest torus.
 pub const COLUMNS: usize = 16;
 
+// A row that no word has.
+pub const NO_ROW: u32 = 16;
+
 // The flow makes its source row turning for its destination column, unless it starts in that column.
 pub fn note(columns: &mut [u32], f: Flow)
     requires { ⌜ (f .xd < length (now columns)) × (f .ys < mostSize) ⌝ }
@@ -23,7 +26,7 @@ pub fn note(columns: &mut [u32], f: Flow)
 
 // Row y is in the word.
 pub fn has_row(word: u32, y: u32) -> bool
-    requires { ⌜ y < mostSize ⌝ }
+    requires { ⌜ y ≤ mostSize ⌝ }
     ensures { λ r. ⌜ r ≡ isSet word y ⌝ }
 {
     (word >> y) % 2 == 1

@@ -1,11 +1,15 @@
 -- `conflict_east`: the definition's own tests, on what the calls return.
-use mathlib.Core.Path.{ap}
+use mathlib.Core.Bool.{_&&_}
+use mathlib.Core.Logic.{inl, inr}
+use mathlib.Core.Path.{_≡_, ap}
 use Prim.Native.Nat.{ℕ, _-_, _*_}
 use borrow.Author.Needs.{needs}
 use borrow.Author.Tests.{le-leb, eq-eqb, ne-eqb}
 use native.Mathlib.Omega.{arith}
 use Rattle.laws.specs.Bits.{isSet}
+use Rattle.laws.proofs.Bits.{set-above}
 use Rattle.laws.proofs.Cases.{cases}
+use Rattle.flow.specs.Plan.{mostSize}
 use Rattle.conflict.specs.Conflict.{conflictEast}
 use Rattle.conflict.proofs.Spread.{laps-most, rows-below}
 use Rattle.conflict.proofs.conflict_east.Statement.{statement}
@@ -41,15 +45,33 @@ returns-3 c =
       le-leb _ _ (c .before .before .if2 .left),
     )
 
+has-row-requires : tie.Need-has-row-requires
+has-row-requires c κs =
+    let p = c .before .before .before .before .pre in
+    elim (c .if4 .came) [
+      | inl on ↦ rw (on .1) (omega (arith, p .0 .own .ys-on, p .0 .sy-most))
+      | inr off ↦ rw (off .1) (omega arith)
+    ]
+
+-- one test: f's row lies on g's way, and turns
+meets : (c : tie.After-has-row) → let way = c .before .before in let a = way .before .before .before .args in
+    way .on-way2 .result && isSet (a .word) (a .f .ys) ≡ c .has-row .result
+meets c =
+    let p = c .before .before .before .before .before .pre in
+    elim (c .before .if4 .came) [
+      | inl on ↦ rw (c .has-row .ensures, on .1, on .0 .taken)
+      | inr off ↦ rw (c .has-row .ensures, off .1, off .0 .left, set-above _ _ mostSize (p .1) (p .0 .sy-most))
+    ]
+
 rows-south-requires : tie.Need-rows-south-requires
 rows-south-requires c κs =
-    let rows = c .before .before .before .before in
+    let rows = c .before .before .before .before .before in
     let p = rows .before .pre in
     (p .0 .sy-most, (p .1, (p .0 .other .ys-on, omega (arith, rows .offset .ensures, rows-below _ _ _ _ (p .0)))))
 
-mul-t15 : tie.Need-mul-t15
-mul-t15 c =
-    let rows = c .before .before .before .before .before in
+mul-t17 : tie.Need-mul-t17
+mul-t17 c =
+    let rows = c .before .before .before .before .before .before in
     let start = rows .before in
     let below = rows-below _ _ _ _ (start .pre .0) in
     let small = laps-most _ _ _ _ (start .pre .0) (isSet (start .args .word)) (rows .offset .result - 1) (omega (arith, rows .offset .ensures)) in
@@ -58,11 +80,12 @@ mul-t15 c =
 returns-4 : tie.Need-returns-4
 unfolding conflictEast
 returns-4 c =
-    let way = c .before .before .before in
+    let met = c .before .before in
+    let way = met .before .before in
     rw (
       ← (way .on-way2 .ensures),
-      ← (c .before .before .has-row .ensures),
-      c .before .if4 .taken,
+      meets met,
+      c .before .if5 .taken,
       ← (way .before .before .offset .ensures),
       ne-eqb _ _ (way .before .if1 .left),
       ← (c .rows-south .ensures),
@@ -71,11 +94,11 @@ returns-4 c =
 returns-5 : tie.Need-returns-5
 unfolding conflictEast
 returns-5 c =
-    let way = c .before .before in
+    let way = c .before .before .before in
     rw (
       ← (way .on-way2 .ensures),
-      ← (c .before .has-row .ensures),
-      c .if4 .left,
+      meets (c .before),
+      c .if5 .left,
       ← (way .before .before .offset .ensures),
       ne-eqb _ _ (way .before .if1 .left),
     )
@@ -83,4 +106,4 @@ returns-5 c =
 pub conflict-east-spec : {M : Type 1} → statement M
 conflict-east-spec =
     tie.close (tie.spec (λ c κs. search needs) (λ c κs. search needs) returns (λ c κs. search needs) returns-2 returns-3
-    (λ c κs. search needs) (λ c κs. search needs) (λ c. search needs) rows-south-requires mul-t15 returns-4 returns-5)
+    (λ c κs. search needs) has-row-requires (λ c. search needs) rows-south-requires mul-t17 returns-4 returns-5)
