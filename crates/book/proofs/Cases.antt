@@ -29,7 +29,7 @@ use Rattle.router.specs.Links as Links
 use Rattle.router.specs.Rule as Rule
 use Rattle.book.specs.Cycle.{holds, sent, lowest, deliveries}
 use Rattle.book.specs.Feed.{refusal, feed}
-use Rattle.book.specs.Cases.{Case, Says, starred, across, along}
+use Rattle.book.specs.Cases.{Case, Says, starred, across, along, turned}
 
 -- a rival in every cycle: I(t) is t
 filled : windowOf (across 1 1) 0 ≡ Nothing
@@ -41,12 +41,12 @@ filled = window-none (across 1 1) 0 (λ t l m. omega (arith, div-one (t - 1 + 0)
 abbrev Reads : Plan → Type 0
 Reads p = windowAnswer (planBytes [] p) 0 ≡ windowBy 0 (windowOf p 0)
 
-reads : Reads (across 10 1) × (Reads (across 2 3) × (Reads (across 1 1) × Reads along))
+reads : Reads (across 10 1) × (Reads (across 2 3) × (Reads (across 1 1) × (Reads along × Reads turned)))
 unfolding Bounded.allBelow Bounded.tabulate Bytes.littleEndian2 Bytes.littleEndian4 Bytes.twoBytes Bytes.fourBytes Layout.tagged
     Layout.trailerOf Layout.periodAt Layout.flowFrom Layout.planOf Refusals.headerNumber Refusals.trailerNumber Refusals.recordNumber
     Refusals.firstRefused Refusals.flowNumber Refusals.planAnswer Written.recordBytes Written.recordsBytes Written.trailerBytes
     Written.planBytes Bounds.asked Bounds.windowAnswer
-reads = (refl, (refl, (refl, refl)))
+reads = (refl, (refl, (refl, (refl, refl))))
 
 -- every row of a table holds
 abbrev AllHold : List Case → Type 0
@@ -64,14 +64,17 @@ unfolding Bounded.tabulate Bounded.firstBelow Bounded.sumBelow Axis.offset Axis.
     Limits.offerNumber Limits.stepNumber
 rows = (refl, ((refl, refl), ((refl, refl), (refl, ((refl, refl), ((refl, refl), ((refl, refl), windows)))))))
   where
+    wide : AllHold (drop 20 starred)
+    wide = (reads .1 .1 .1 .1, (refl, (refl, (refl, (refl, (refl, ((refl, refl), tt)))))))
+
     later : AllHold (drop 12 starred)
-    later = (refl, (refl, (refl, ((refl, refl), (refl, (refl, (refl, (refl, (refl, (refl, (refl, (refl, ((refl, refl), tt)))))))))))))
+    later = (refl, (refl, (refl, ((refl, refl), (refl, (refl, (refl, (refl, wide))))))))
 
     refused : windowAnswer (planBytes [] (across 1 1)) 0 ≡ Refused 14 0
     refused = reads .1 .1 .0 ∙ ap (windowBy 0) filled
 
     windows : AllHold (drop 7 starred)
-    windows = (reads .0, (reads .1 .0, (refused, (refl, (reads .1 .1 .1, later)))))
+    windows = (reads .0, (reads .1 .0, (refused, (refl, (reads .1 .1 .1 .0, later)))))
 
 pub starred-hold : (c : Case) → Mem c starred → Says c
 starred-hold = each starred rows

@@ -1,5 +1,5 @@
 -- The starred cases of 01 with U3's windows and U8's rows, U3's and U8's own, and one of 01's slip 'Expecting a flow's packets in
--- order', as rows of one table (01, Cases on both sides; Slips; 02, U3, U8). All are 4 by 4, and each states its plan.
+-- order', as rows of one table (01, Cases on both sides; Slips; 02, U3, U8). All are 4 by 4, and each bound, conflict and window states its plan.
 use mathlib.Core.List.{List, [], _∷_, map}
 use mathlib.Core.Path.{_≡_}
 use Prim.Native.Nat.{ℕ, zero, suc}
@@ -77,7 +77,7 @@ abbrev pub along : Plan
 along = torus (flow 0 2 0 3 9 1 ∷ flow 0 0 0 3 8 1 ∷ [])
 
 -- f and g in one column, with two flows more that turn rows 1 and 2 for it
-abbrev turned : Plan
+abbrev pub turned : Plan
 turned = torus (flow 0 2 0 3 9 1 ∷ flow 0 0 0 3 8 1 ∷ flow 3 1 0 1 9 1 ∷ flow 1 2 0 2 9 1 ∷ [])
 
 -- g goes down column 1 past f's row, in which nobody turns for column 1; and with a flow that does
@@ -86,6 +86,10 @@ passing = torus (flow 1 2 2 2 9 1 ∷ flow 0 0 1 3 9 1 ∷ [])
 
 abbrev deflecting : Plan
 deflecting = torus (flow 1 2 2 2 9 1 ∷ flow 0 0 1 3 9 1 ∷ flow 3 2 1 2 9 1 ∷ [])
+
+-- and with one more, that turns row 1 for column 1
+abbrev rounding : Plan
+rounding = torus (flow 1 2 2 2 9 1 ∷ flow 0 0 1 3 9 1 ∷ flow 3 2 1 2 9 1 ∷ flow 3 1 1 1 9 1 ∷ [])
 
 -- the two that meet at (0,1)
 abbrev meeting : Plan
@@ -124,14 +128,16 @@ starred =
     (2 ∷ 2 ∷ 2 ∷ [])
     -- U3: "a token that finds it full is lost"
     ∷ tokens home (steps 10) 1
-    -- U8: two flows in one plan, where row 0 turns for the second; two turning rows; an E conflict in a later row, which f's row must
-    -- turn for; and a packet that is deflected as often as its row turns
+    -- U8: two flows in one plan, where row 0 turns for the second; two turning rows; an E conflict in a later row, which needs f's row
+    -- to turn for g's column, and one with a turning row before it; and a bound that the flight of 7 above meets
     ∷ bound both 0 8
     ∷ bound both 1 8
     ∷ conflicts turned (Spread 8)
+    ∷ window turned (Done 6)
     ∷ bound turned 1 13
     ∷ conflicts passing Free
     ∷ conflicts deflecting (Spread 0)
+    ∷ conflicts rounding (Spread 4)
     ∷ bound meeting 0 7
     -- 01's slip: serial 2 of flow 0 leaves in cycle 2, serial 1 in cycle 5
     ∷ delivers overtaking (offer 0 ∷ offer 0 ∷ offer 1 ∷ steps 6) (exit 1 1 0 1 0 ∷ exit 0 2 1 2 0 ∷ exit 0 1 0 5 1 ∷ []) (3 ∷ 3 ∷ 7 ∷ [])

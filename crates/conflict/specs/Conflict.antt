@@ -23,15 +23,16 @@ columnsTo sx f g = offset sx (g .xs) (f .xs)
 abbrev pub laps : (sx sy : ℕ) (turns : ℕ → Bool) → Flow → (r : ℕ) → ℕ
 laps sx sy turns g r = rowsSouth sy turns (g .ys) r * sx
 
--- f's port is E and g's client is another. J is "among the first r−1 for E, and an E conflict with r ≥ 1 needs row r to turn for g's
--- column": row r is f's own row, and g's column is its destination's
+-- f's port is E and g's client is another: r = 0 and 1 ≤ (x − xs of g) mod Sx ≤ ΔX of g, J = 0; or 1 ≤ r ≤ ΔY of g, with the laps
+-- "among the first r−1 for E, and an E conflict with r ≥ 1 needs row r to turn for g's column": row r is f's own row, and g's column
+-- is its destination's
 unfoldable pub conflictEast : (sx sy : ℕ) (turns : ℕ → Bool) → Flow → Flow → Conflict
 conflictEast sx sy turns f g =
     cond (eqb (rowsTo sy f g) 0)
     (cond (leb 1 (columnsTo sx f g) && leb (columnsTo sx f g) (ΔX sx g)) (Spread 0) Free)
     (cond (leb (rowsTo sy f g) (ΔY sy g) && turns (f .ys)) (Spread (laps sx sy turns g (rowsTo sy f g - 1))) Free)
 
--- f's port is S and g's client is another. J is "among the first r rows .. for S"
+-- f's port is S, g's client is another, xd of g is x and r ≤ ΔY of g: the laps "among the first r rows south of g's source for S"
 unfoldable pub conflictSouth : (sx sy : ℕ) (turns : ℕ → Bool) → Flow → Flow → Conflict
 conflictSouth sx sy turns f g =
     cond (eqb (g .xd) (f .xs) && leb (rowsTo sy f g) (ΔY sy g)) (Spread (laps sx sy turns g (rowsTo sy f g))) Free

@@ -1,3 +1,3 @@
--- Which flows conflict, in 01's words.
+-- Which flows conflict, in the words of 01 and 02.
 pub mod Conflict
 pub mod Inner

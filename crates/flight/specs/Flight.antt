@@ -17,7 +17,7 @@ flight entry exit = exit - entry + 2
 abbrev pub flightOf : ℕ → ℕ → Flow → ℕ → ℕ
 flightOf sx sy f D = travel sx sy f D + 2
 
--- the most deflections of a flow's packet in a run from reset: "the number of turning rows among the ΔY rows south of the source, for
+-- in a run from reset no packet of the flow has more deflections: "the number of turning rows among the ΔY rows south of the source, for
 -- destination column xd"
 abbrev pub mostDeflections : Plan → Flow → ℕ
 mostDeflections p f = turningRows p (f .xd) (f .ys) (ΔY (p .sy) f)

@@ -1,4 +1,4 @@
--- Turning rows: the rows in which a packet can be deflected in a run from reset (02, U8).
+-- Turning rows (02, U8). In a run from reset no packet is deflected in a row that isn't turning for its destination column.
 use mathlib.Core.Bool.{Bool, not, _&&_}
 use Prim.Native.Nat.{ℕ, _+_, _%_}
 use lib.Dec.{eqb}
@@ -16,7 +16,7 @@ turnsInto x y f = eqb (f .ys) y && (not (eqb (f .xs) x) && eqb (f .xd) x)
 unfoldable pub isTurning : Plan → (x y : ℕ) → Bool
 isTurning p x y = any (turnsInto x y) (p .flows)
 
--- how many of the first r rows south of row y pass a test; row y itself isn't one of them
+-- how many of the first r rows south of row y pass a test; with r below Sy, row y itself isn't one of them
 unfoldable pub rowsSouth : (sy : ℕ) → (ℕ → Bool) → (y r : ℕ) → ℕ
 rowsSouth sy t y r = sumBelow r (λ k. one (t ((y + (k + 1)) % sy)))
 

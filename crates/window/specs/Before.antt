@@ -1,4 +1,4 @@
--- Windows as 01 has them, from when every row was charged a lap: what "No window may grow through this" compares with (02, U8).
+-- Windows by 01's own conflicts and spreads, with U3's curve: what "No window may grow through this" compares with (02, U8).
 use mathlib.Core.Bool.{cond, _&&_}
 use mathlib.Core.Path.{_≡_}
 use Prim.Native.Nat.{ℕ, _-_, _*_, _≤_}
@@ -16,7 +16,7 @@ use Rattle.window.specs.declared.Window.{Window}
 use Rattle.window.specs.declared.Window.the-variants.{At}
 use Rattle.window.specs.Window.{share, leastFrom, mostWindow, windowOf}
 
--- f's port is E and g's client is another: "or 1 ≤ r ≤ ΔY of g, J = (r−1)×Sx"
+-- f's port is E and g's client is another: "r = 0 and 1 ≤ (x − xs of g) mod Sx ≤ ΔX of g, J = 0; or 1 ≤ r ≤ ΔY of g, J = (r−1)×Sx"
 unfoldable pub eastBefore : ℕ → ℕ → Flow → Flow → Conflict
 eastBefore sx sy f g =
     cond (eqb (rowsTo sy f g) 0)
@@ -28,6 +28,7 @@ unfoldable pub southBefore : ℕ → ℕ → Flow → Flow → Conflict
 southBefore sx sy f g =
     cond (eqb (g .xd) (f .xs) && leb (rowsTo sy f g) (ΔY sy g)) (Spread (rowsTo sy f g * sx)) Free
 
+-- how g, a flow other than f, conflicts with f at f's source
 unfoldable pub conflictBefore : ℕ → ℕ → Flow → Flow → Conflict
 conflictBefore sx sy f g =
     cond (sameClient f g) (Spread 0)
@@ -37,9 +38,11 @@ conflictBefore sx sy f g =
 unfoldable pub shareBefore : Plan → ℕ → ℕ → ℕ → ℕ
 shareBefore p f t g = cond (eqb g f) 0 (share (flowAt p g) t (conflictBefore (p .sx) (p .sy) (flowAt p f) (flowAt p g)))
 
+-- I(t) sums over the flows that conflict with f
 unfoldable pub interferenceBefore : Plan → ℕ → ℕ → ℕ
 interferenceBefore p f t = sumBelow (length (p .flows)) (shareBefore p f t)
 
+-- the least window t from 1 to 65,535 with I(t) < t
 unfoldable pub windowBefore : Plan → ℕ → Window
 windowBefore p f = leastFrom (interferenceBefore p f) mostWindow 1
 

@@ -1,4 +1,4 @@
--- Windows, in 01's words, and as they were before U8.
+-- Windows, in the words of 01 and 02, and by 01's own conflicts.
 pub mod Window
 pub mod Rivals
 pub mod Before

@@ -1,4 +1,4 @@
--- The interference I(t), the least window T and the lone wait (01, Windows).
+-- The interference I(t), the least window T and the lone wait (01, Windows; 02, U3, U8).
 use mathlib.Core.Bool.{cond}
 use Prim.Native.Nat.{ℕ, zero, suc, _+_, _-_}
 use lib.Dec.{ltb, eqb}
