@@ -23,7 +23,8 @@ use Rattle.place.specs.Place.{Place, W, N, columnOf, rowOf}
 use Rattle.place.specs.InPlace.{rowsDone}
 use Rattle.router.specs.Rule.{Seen, turnsSouth, Way, wayBy, wayFrom}
 use Rattle.router.proofs.Rule.{Closes}
-use Rattle.router.proofs.Path.{Rising, OnPath, MayBend, progressBy, progress-row, placed-south, along-first, along-later, step-placed}
+use Rattle.router.proofs.Limit.{Rising}
+use Rattle.router.proofs.Path.{OnPath, MayBend, progressBy, progress-row, placed-south, along-first, along-later, step-placed}
 use Rattle.router.proofs.Path as Path
 use Rattle.book.specs.Line.{Stage, waiting, placed, left, Line, isWaiting, entryOf}
 use Rattle.book.specs.Book.{Book}

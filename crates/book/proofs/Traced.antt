@@ -22,7 +22,8 @@ use Rattle.turning.proofs.Turning.{turns-own, south-rises, south-step, step-sou
 use Rattle.place.specs.Place.{Place, W, N, columnOf, rowOf}
 use Rattle.router.specs.Rule.{turnsSouth, Way, via, leave, wayIn}
 use Rattle.router.proofs.Links.{place-same}
-use Rattle.router.proofs.Path.{Rising, OnPath, AtExit, Arrives, MayBend, progressBy, whole, step-placed, step-entry}
+use Rattle.router.proofs.Limit.{Rising}
+use Rattle.router.proofs.Path.{OnPath, AtExit, Arrives, MayBend, progressBy, whole, step-placed, step-entry}
 use Rattle.router.proofs.Path as Path
 use Rattle.book.specs.Line.{Stage, waiting, placed, left, Line, isWaiting, standsIn, entryOf}
 use Rattle.book.specs.Book.{Book, offered}

@@ -16,7 +16,8 @@ use Rattle.place.specs.Place.{Place, W, N, columnOf, rowOf}
 use Rattle.place.specs.InPlace.{inPlace}
 use Rattle.router.specs.Rule.{Seen, deflects, Way, sameWay, wayFrom, heldIn, takes, isFlow, entrant, wayIn}
 use Rattle.router.proofs.Rule.{way-same, takes-own}
-use Rattle.router.proofs.Path.{everyRow, every-rising, every-bends, Arrives, step-placed, step-entry}
+use Rattle.router.proofs.Limit.{everyRow, every-rising}
+use Rattle.router.proofs.Path.{every-bends, Arrives, step-placed, step-entry}
 use Rattle.router.proofs.InPlace.{in-place-path}
 use Rattle.router.proofs.Entrant.{Found, no-entrant, has-entrant, found, enters-at}
 use Rattle.state.specs.declared.Register.{Register}

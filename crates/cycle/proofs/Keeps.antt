@@ -24,7 +24,8 @@ use Rattle.router.specs.Links.{Output, feeder}
 use Rattle.router.specs.Rule.{via}
 use Rattle.router.specs.Delivery.{wordsOf}
 use Rattle.router.proofs.Links.{feeder-on, reach-feeder}
-use Rattle.router.proofs.Path.{everyRow, OnPath, entered-before}
+use Rattle.router.proofs.Limit.{everyRow}
+use Rattle.router.proofs.Path.{OnPath, entered-before}
 use Rattle.router.proofs.InPlace.{path-in-place}
 use Rattle.state.specs.declared.Register.{Register}
 use Rattle.state.specs.declared.Register.the-variants.{Empty, Packet}

@@ -12,7 +12,8 @@ use Rattle.flow.specs.Ranges.{FlowOk}
 use Rattle.place.specs.Place.{Place, W, N, columnOf, rowOf}
 use Rattle.place.specs.InPlace.{rowsDone, inPlace}
 use Rattle.place.proofs.InPlace.{in-north, in-first-row, in-later-row, north-has, first-row-has, later-row-has}
-use Rattle.router.proofs.Path.{everyRow, OnPath}
+use Rattle.router.proofs.Limit.{everyRow}
+use Rattle.router.proofs.Path.{OnPath}
 
 module _ (p : Plan) (f : Flow) (ok : FlowOk (p .sx) (p .sy) f) (c D : ℕ) where
   -- with at most a deflection a row

@@ -3,6 +3,7 @@ pub mod Links
 pub mod Rule
 pub mod Entrant
 pub mod Reasons
+pub mod Limit
 pub mod Path
 pub mod InPlace
 pub mod Delivery

@@ -22,21 +22,7 @@ use Rattle.place.specs.Place.{Place, W, N, columnOf, rowOf}
 use Rattle.place.specs.InPlace.{rowsDone}
 use Rattle.router.specs.Links.{reach}
 use Rattle.router.specs.Rule.{Seen, turnsSouth, deflects, Way, via, leave, wayBy, wayFrom}
-
--- the most D of a packet that goes S in each of its rows never falls from row to row
-abbrev pub Rising : (ℕ → ℕ) → Type 0
-Rising limit = (m n : ℕ) → m ≤ n → limit m ≤ limit n
-
--- a packet may be deflected in row n of its way
-abbrev pub Bends : (ℕ → ℕ) → ℕ → Type 0
-Bends limit n = limit (n - 1) < limit n
-
--- once in every row, as on any state
-abbrev pub everyRow : ℕ → ℕ
-everyRow n = n
-
-pub every-rising : Rising everyRow
-every-rising m n h = h
+use Rattle.router.proofs.Limit.{Rising, Bends, everyRow}
 
 module _ (p : Plan) (f : Flow) where
   abbrev sx : ℕ
