@@ -3,6 +3,7 @@ use file::Trailer;
 use flow::Flow;
 use flow::Port;
 use plan::Answer;
+use window::Kept;
 use window::Window;
 ghost use mathlib.Core.Path.{_≡_};
 ghost use Prim.Native.Nat.{_+_, _*_, _≤_};
@@ -38,7 +39,7 @@ pub fn turning_rows(file: &[u8], t: Trailer) -> [u32; turning::COLUMNS]
     columns
 }
 
-// Flow g, after the n rivals of flow f among the flows before it.
+// Flow g, after the rivals of flow f among the flows before it.
 fn meet(
     file: &[u8],
     t: Trailer,
@@ -48,47 +49,40 @@ fn meet(
     f: u32,
     g: u32,
     rivals: &mut [u32],
-    n: usize,
-) -> usize
+    kept: Kept,
+) -> Kept
     requires { ⌜ (FlowInFile (now file) t f) × (FlowInFile (now file) t g) ⌝ }
     requires { ⌜ TurningIn (planOf (now file)) (now columns) ⌝ }
     requires { ⌜ (own ≡ flowAt (planOf (now file)) f) × (port ≡ portOf (t .sx) own) ⌝ }
-    requires { ⌜ RivalsAmong (planOf (now file)) f g (now rivals) n ⌝ }
+    requires { ⌜ RivalsAmong (planOf (now file)) f g (now rivals) kept ⌝ }
     ensures { λ r. ⌜ RivalsAmong (planOf (now (file .entry))) f (g + 1) (now (rivals .exit)) r ⌝ }
 {
     if g == f {
-        return n;
+        return kept;
     }
     let other = flow_at(file, t, g);
     let column = other.xd as usize;
     let c = conflict::conflict_of(t.sx, t.sy, columns[column], own, port, other);
-    window::keep_rival(rivals, n, other, c)
+    window::keep_rival(rivals, kept, other, c)
 }
 
-// The rivals of flow f, found once; they are as many as is answered.
-fn find_rivals(file: &[u8], t: Trailer, columns: &[u32], f: u32, rivals: &mut [u32]) -> usize
-    requires { ⌜ (FlowInFile (now file) t f) × (rivalWords * t .count ≤ length (now rivals)) ⌝ }
-    requires { ⌜ TurningIn (planOf (now file)) (now columns) ⌝ }
-    ensures { λ r. ⌜ RivalsAmong (planOf (now (file .entry))) f (t .count) (now (rivals .exit)) r ⌝ }
-{
-    let own = flow_at(file, t, f);
-    let port = own.port(t.sx);
-    let count = t.count;
-    let mut n = 0usize;
-    for g in 0..count {
-        n = meet(file, t, columns, own, port, f, g, rivals, n);
-    }
-    n
-}
-
-// The window T of flow f of an accepted file, with room for its rivals.
+// The window T of flow f of an accepted file, with room for its rivals. They are found once, as long as their rates leave some of the link.
 fn window_in(file: &[u8], t: Trailer, columns: &[u32], f: u32, rivals: &mut [u32]) -> Window
     requires { ⌜ (FlowInFile (now file) t f) × (rivalWords * t .count ≤ length (now rivals)) ⌝ }
     requires { ⌜ TurningIn (planOf (now file)) (now columns) ⌝ }
     ensures { λ r. ⌜ r ≡ windowOf (planOf (now (file .entry))) f ⌝ }
 {
-    let n = find_rivals(file, t, columns, f, rivals);
-    window::least_window(rivals, n)
+    let own = flow_at(file, t, f);
+    let port = own.port(t.sx);
+    let count = t.count;
+    let mut kept = Kept { count: 0, rates: 0 };
+    for g in 0..count {
+        kept = meet(file, t, columns, own, port, f, g, rivals, kept);
+        if kept.fills_link() {
+            return Window::Nothing;
+        }
+    }
+    window::least_window(rivals, kept.count)
 }
 
 // The window T of flow f of an accepted file, by its turning rows. Few flows need little room.

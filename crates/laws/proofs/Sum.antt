@@ -27,6 +27,18 @@ unfolding sumBelow
 sum-mono f g zero h = omega arith
 sum-mono f g (suc n) h = omega (arith, sum-mono f g n (λ i l. h i (omega arith)), h n (omega arith))
 
+-- no fewer terms, no smaller sum
+pub sum-grow : (f : ℕ → ℕ) (n m : ℕ) → n ≤ m → sumBelow n f ≤ sumBelow m f
+unfolding sumBelow
+sum-grow f n zero h =
+    let none : n ≡ 0 = omega arith in
+    rw none (omega arith)
+sum-grow f n (suc m) h =
+    elim (eq-or-lt-of-le h) [
+      | inl same ↦ rw same (omega arith)
+      | inr below ↦ omega (arith, sum-grow f n m (le-of-suc-le-suc below))
+    ]
+
 -- n terms of at most c
 pub sum-most : (f : ℕ → ℕ) (c n : ℕ) → ((i : ℕ) → i < n → f i ≤ c) → sumBelow n f ≤ c * n
 unfolding sumBelow

@@ -15,7 +15,7 @@ use Rattle.bucket.proofs.Curve.{curve-span, curve-least, curve-most}
 use Rattle.conflict.specs.declared.Conflict.the-variants.{Spread}
 use Rattle.window.specs.Window.{share, mostWindow}
 use Rattle.conflict.specs.Inner.{mostSpread}
-use Rattle.window.specs.Rivals.{rivalWords, rivalShare, demandOf, RivalOk, Rivals, keepRival}
+use Rattle.window.specs.Rivals.{rivalWords, rivalShare, demandOf, RivalOk, Rivals, withRival}
 
 pub demand-time : (l : List ℕ) (n t u : ℕ) → t ≤ u → demandOf l n t ≤ demandOf l n u
 unfolding demandOf rivalShare
@@ -54,8 +54,8 @@ demand-more l n t = sum-more _ n
 
 -- flow g as rival number n, with spread j
 module _ (l : List ℕ) (n : ℕ) (g : Flow) (j : ℕ) (room : rivalWords * n + 2 < length l) where
-  abbrev pub with-g : List ℕ
-  with-g = keepRival l n g (Spread j) .words
+  abbrev with-g : List ℕ
+  with-g = withRival l n g j
 
   -- the words of the rivals before it stay
   with-below : (i : ℕ) → i < rivalWords * n → getD with-g i 0 ≡ getD l i 0

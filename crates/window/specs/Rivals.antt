@@ -10,6 +10,7 @@ use Rattle.bucket.specs.Curve.{curve}
 use Rattle.conflict.specs.declared.Conflict.{Conflict}
 use Rattle.conflict.specs.declared.Conflict.the-variants.{Free, Spread}
 use Rattle.conflict.specs.Inner.{mostSpread}
+use Rattle.window.specs.declared.Kept.{Kept}
 use Rattle.window.specs.Window.{shareOf}
 
 -- σ, P and J
@@ -24,18 +25,6 @@ rivalShare l t k = curve (getD l (rivalWords * k) 0) (getD l (rivalWords * k + 1
 unfoldable pub demandOf : List ℕ → ℕ → ℕ → ℕ
 demandOf l n t = sumBelow n (rivalShare l t)
 
--- a link that is filled, in parts of a packet per cycle
-abbrev pub wholeLink : ℕ
-wholeLink = 2147483648
-
--- the rate of rival number k of the words l, in those parts
-unfoldable pub rivalRate : List ℕ → ℕ → ℕ
-rivalRate l k = wholeLink / getD l (rivalWords * k + 1) 0
-
--- the rates of the first n rivals of the words l
-unfoldable pub ratesOf : List ℕ → ℕ → ℕ
-ratesOf l n = sumBelow n (rivalRate l)
-
 -- rival number k of the words l has numbers in range
 pub record RivalOk (l : List ℕ) (k : ℕ) : Type 0 where
   pub burst-least : 1 ≤ getD l (rivalWords * k) 0
@@ -49,22 +38,34 @@ pub record Rivals (l : List ℕ) (n : ℕ) : Type 0 where
   pub long : rivalWords * n ≤ length l
   pub rival-ok : (k : ℕ) → k < n → RivalOk l k
 
--- the words l hold the n rivals of flow number f among the first m flows: together they add to I(t) what those flows do
-pub record RivalsAmong (p : Plan) (f m : ℕ) (l : List ℕ) (n : ℕ) : Type 0 where
-  pub words : Rivals l n
-  pub few : n ≤ m
-  pub room : rivalWords * length (p .flows) ≤ length l
-  pub sum : (t : ℕ) → demandOf l n t ≡ sumBelow m (shareOf p f t)
+-- a link that is filled, in parts of a packet per cycle; the rate of a flow is that many divided by its period
+abbrev pub wholeLink : ℕ
+wholeLink = 2147483648
 
--- words and the number of rivals in them
+-- the words l hold the rivals kept, those of flow number f among the first m flows: together they add to I(t) what those flows do, and their
+-- rates are no more than that
+pub record RivalsAmong (p : Plan) (f m : ℕ) (l : List ℕ) (k : Kept) : Type 0 where
+  pub words : Rivals l (k .count)
+  pub few : k .count ≤ m
+  pub room : rivalWords * length (p .flows) ≤ length l
+  pub sum : (t : ℕ) → demandOf l (k .count) t ≡ sumBelow m (shareOf p f t)
+  pub rates-most : k .rates ≤ wholeLink * k .count
+  pub paced : (t : ℕ) → 1 ≤ t → k .rates * t ≤ wholeLink * demandOf l (k .count) t
+
+-- the rivals kept, and their words
 pub record Gathered : Type 0 where
-  pub count : ℕ
+  pub kept : Kept
   pub words : List ℕ
 
-abbrev pub gathered : ℕ → List ℕ → Gathered
-gathered n l = record { count = n; words = l }
+abbrev pub gathered : Kept → List ℕ → Gathered
+gathered k l = record { kept = k; words = l }
 
--- after n rivals, flow g with its conflict
-abbrev pub keepRival : List ℕ → ℕ → Flow → Conflict → Gathered
-keepRival l n g Free = gathered n l
-keepRival l n g (Spread j) = gathered (n + 1) (set (set (set l (rivalWords * n) (g .burst)) (rivalWords * n + 1) (g .period)) (rivalWords * n + 2) j)
+-- the words l with flow g as rival number n, with spread j
+abbrev pub withRival : List ℕ → ℕ → Flow → ℕ → List ℕ
+withRival l n g j = set (set (set l (rivalWords * n) (g .burst)) (rivalWords * n + 1) (g .period)) (rivalWords * n + 2) j
+
+-- after the rivals kept, flow g with its conflict
+abbrev pub keepRival : List ℕ → Kept → Flow → Conflict → Gathered
+keepRival l k g Free = gathered k l
+keepRival l k g (Spread j) =
+    gathered (record { count = k .count + 1; rates = k .rates + wholeLink / g .period }) (withRival l (k .count) g j)

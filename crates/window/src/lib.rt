@@ -1,24 +1,30 @@
-// The search for a flow's window among its rivals, and the lone wait. Rests on conflict and bucket.
+// A flow's rivals, the search for its window among them, and the lone wait. Rests on conflict and bucket.
 use conflict::Conflict;
 use flow::Flow;
 ghost use mathlib.Core.Path.{_≡_};
-ghost use Prim.Native.Nat.{_+_, _*_, _<_, _≤_};
+ghost use Prim.Native.Nat.{_+_, _*_, _/_, _<_, _≤_};
 ghost use lib.Dec.{leb};
 ghost use lib.ListN.{length};
 ghost use Rattle.window.specs.Window.{mostWindow, leastFrom, loneWait};
-ghost use Rattle.flow.specs.Plan.{mostPeriod};
-ghost use Rattle.window.specs.Rivals.{rivalWords, rivalShare, rivalRate, ratesOf, wholeLink, demandOf, Rivals, RivalOk, gathered, keepRival};
+ghost use Rattle.flow.specs.Plan.{mostPeriod, mostFlows};
+ghost use Rattle.window.specs.Rivals.{rivalWords, rivalShare, wholeLink, demandOf, Rivals, RivalOk, gathered, keepRival};
 
 // Windows run from 1 to 65,535.
 pub const MOST_WINDOW: u32 = 65535;
 
 // A rival is kept as three words: its burst, its period and its spread.
 pub const RIVAL_WORDS: usize = 3;
-// A link that is filled, in parts of a packet per cycle. A word holds any sum below it and one rate more.
-const WHOLE_LINK: u32 = 2147483648;
-
 // The words of 256 rivals.
 pub const MOST_RIVAL_WORDS: usize = 768;
+
+// A link that is filled, in parts of a packet per cycle.
+const WHOLE_LINK: u32 = 2147483648;
+
+// The rivals kept so far: how many, and the sum of their rates in those parts.
+pub struct Kept {
+    pub count: usize,
+    pub rates: u64,
+}
 
 // The window T of a flow, or that there is none.
 pub enum Window {
@@ -47,29 +53,6 @@ fn demand_of(rivals: &[u32], n: usize, t: u32) -> u32
     sum
 }
 
-// The rate of rival number k.
-fn rival_rate(rivals: &[u32], k: usize) -> u32
-    requires { ⌜ (rivalWords * k + 2 < length (now rivals)) × (RivalOk (now rivals) k) ⌝ }
-    ensures { λ r. ⌜ (r ≡ rivalRate (now (rivals .entry)) k) × (r ≤ wholeLink) ⌝ }
-{
-    WHOLE_LINK / rivals[RIVAL_WORDS * k + 1]
-}
-
-// The rates of the first n rivals fill the link.
-fn fill_link(rivals: &[u32], n: usize) -> bool
-    requires { ⌜ Rivals (now rivals) n ⌝ }
-    ensures { λ r. ⌜ r ≡ leb wholeLink (ratesOf (now (rivals .entry)) n) ⌝ }
-{
-    let mut sum = 0u32;
-    for k in 0..n {
-        sum += rival_rate(rivals, k);
-        if WHOLE_LINK <= sum {
-            return true;
-        }
-    }
-    false
-}
-
 // The search for the least window that rivals leave; 1 is none. Where they leave none at t, none is left up to their demand.
 fn search(rivals: &[u32], n: usize) -> Window
     requires { ⌜ (Rivals (now rivals) n) × (1 ≤ n) ⌝ }
@@ -88,7 +71,7 @@ fn search(rivals: &[u32], n: usize) -> Window
     }
 }
 
-// The least window that the n rivals leave. Without a rival it is 1, and where their rates fill the link there is none.
+// The least window that the n rivals leave. Without a rival it is 1.
 pub fn least_window(rivals: &[u32], n: usize) -> Window
     requires { ⌜ Rivals (now rivals) n ⌝ }
     ensures { λ r. ⌜ r ≡ leastFrom (demandOf (now (rivals .entry)) n) mostWindow 1 ⌝ }
@@ -96,25 +79,44 @@ pub fn least_window(rivals: &[u32], n: usize) -> Window
     if n == 0 {
         return Window::At(1);
     }
-    if fill_link(rivals, n) {
-        return Window::Nothing;
-    }
     search(rivals, n)
 }
 
-// Flow g with its conflict, after n rivals: three words more if it is one.
-pub fn keep_rival(rivals: &mut [u32], n: usize, g: Flow, c: Conflict) -> usize
-    requires { ⌜ rivalWords * n + 2 < length (now rivals) ⌝ }
-    ensures { λ r. ⌜ gathered r (now (rivals .exit)) ≡ keepRival (now (rivals .entry)) n g c ⌝ }
+impl Kept {
+    // The rates fill the link, so that no window is left.
+    pub fn fills_link(self) -> bool
+        ensures { λ r. ⌜ r ≡ leb wholeLink (self .rates) ⌝ }
+    {
+        (WHOLE_LINK as u64) <= self.rates
+    }
+}
+
+// The rate of a flow, by its period.
+fn rate(period: u32) -> u32
+    requires { ⌜ 1 ≤ period ⌝ }
+    ensures { λ r. ⌜ (r ≡ wholeLink / period) × (r ≤ wholeLink) ⌝ }
+{
+    WHOLE_LINK / period
+}
+
+// Flow g with its conflict, after the rivals kept so far: three words more if it is one.
+pub fn keep_rival(rivals: &mut [u32], kept: Kept, g: Flow, c: Conflict) -> Kept
+    requires { ⌜ (rivalWords * kept .count + 2 < length (now rivals)) × (kept .rates ≤ wholeLink * mostFlows) ⌝ }
+    requires { ⌜ 1 ≤ g .period ⌝ }
+    ensures { λ r. ⌜ gathered r (now (rivals .exit)) ≡ keepRival (now (rivals .entry)) kept g c ⌝ }
 {
     match c {
-        Conflict::Free => n,
+        Conflict::Free => kept,
         Conflict::Spread(j) => {
+            let n = kept.count;
             let at = RIVAL_WORDS * n;
             rivals[at] = g.burst;
             rivals[at + 1] = g.period;
             rivals[at + 2] = j;
-            n + 1
+            Kept {
+                count: n + 1,
+                rates: kept.rates + (rate(g.period) as u64),
+            }
         }
     }
 }

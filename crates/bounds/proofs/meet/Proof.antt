@@ -10,7 +10,7 @@ use Rattle.conflict.specs.Inner.{Pair}
 use Rattle.conflict.proofs.Told.{conflict-told}
 use Rattle.window.specs.Rivals.{gathered}
 use Rattle.window.proofs.Gathered.{among-self, among-more}
-use Rattle.bounds.proofs.Opened.{flow-pair, opened-ok, opened-count, opened-sx, opened-sy, word-there, word-small}
+use Rattle.bounds.proofs.Opened.{flow-pair, flow-fits, opened-ok, opened-count, opened-sx, opened-sy, word-there, word-small}
 use Rattle.bounds.proofs.meet.Statement.{statement}
 use Rattle.bounds.proofs.meet.Tie as tie
 
@@ -51,9 +51,16 @@ met c =
 
 keep-rival-requires : tie.Need-keep-rival-requires
 keep-rival-requires c κs =
-    let p = c .before .before .before .before .before .before .before .before .before .pre in
+    let flow = c .before .before .before .before in
+    let p = flow .before .before .before .before .before .pre in
     let among = p .1 .1 .1 in
-    omega (arith, opened-count _ _ (p .0 .0 .opened), p .0 .1 .below, among .few, among .room)
+    let other = flow-fits _ _ _ (p .0 .1) (bytes (flow .before .before .before .before)) in (
+      (
+        omega (arith, opened-count _ _ (p .0 .0 .opened), p .0 .1 .below, among .few, among .room),
+        omega (arith, among .rates-most, among .words .few),
+      ),
+      rw (flow .flow-at .ensures) (other .period-least),
+    )
 
 returns-2 : tie.Need-returns-2
 returns-2 c =

@@ -1,14 +1,12 @@
--- `least_window`: 1 without a rival, none where the rates fill the link; otherwise the search finds it.
-use mathlib.Core.Path.{sym, _∙_}
+-- `least_window`: 1 without a rival; otherwise the search finds it.
+use mathlib.Core.Path.{sym}
 use borrow.Author.Needs.{needs}
-use borrow.Author.Tests.{leb-true}
 use Prim.Native.Nat.{_<_}
 use native.Mathlib.Omega.{arith}
 use Rattle.window.specs.Window.{mostWindow}
 use Rattle.window.specs.Rivals.{demandOf}
-use Rattle.window.proofs.Least.{least-at, least-none}
+use Rattle.window.proofs.Least.{least-at}
 use Rattle.window.proofs.Rivals.{demand-none}
-use Rattle.window.proofs.Rates.{filled}
 use Rattle.window.proofs.least_window.Statement.{statement}
 use Rattle.window.proofs.least_window.Tie as tie
 
@@ -19,11 +17,6 @@ returns c =
     let first = least-at _ mostWindow 1 1 (record { from = omega arith; to = omega arith; free = free; tried = λ k l m. absurd (omega arith) }) in
     rw (c .if1 .taken) (sym first)
 
-returns-2 : tie.Need-returns-2
-returns-2 c =
-    let full = leb-true _ _ (sym (c .before .fill-link .ensures) ∙ c .if2 .taken) in
-    sym (least-none _ _ 1 (λ t l m. filled _ _ t (c .before .before .before .before .pre .rival-ok) full l))
-
 pub least-window-spec : {M : Type 1} → statement M
 least-window-spec =
-    tie.close (tie.spec returns (λ c κs. search needs) returns-2 (λ c κs. search needs) (λ c. search needs))
+    tie.close (tie.spec returns (λ c κs. search needs) (λ c. search needs))
