@@ -44,7 +44,7 @@ fn least_window(file: &File, f: usize) -> Option<u32> {
     let turning = turning(file);
     let [x, y, xd, ..] = numbers(&file.records[f]);
     let mut rivals = [(0, 1); 256];
-    let (mut count, mut burst, mut rates) = (0, 0, 0u64);
+    let (mut count, mut burst, mut rates) = (0, 0, 0u32);
     for (g, record) in file.records.iter().enumerate() {
         let flow = numbers(record);
         if g != f
@@ -54,11 +54,11 @@ fn least_window(file: &File, f: usize) -> Option<u32> {
             rivals[count] = (spread, flow[4]);
             count += 1;
             burst += flow[5];
-            rates += ((1 << 31) / flow[4]) as u64;
+            rates += (1 << 31) / flow[4];
+            if rates >= 1 << 31 {
+                return None;
+            }
         }
-    }
-    if rates >= 1 << 31 {
-        return None;
     }
     let mut t = 1;
     while t <= 65_535 {
