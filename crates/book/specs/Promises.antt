@@ -1,4 +1,4 @@
--- What the packet book promises after every list of calls (01, The packet book, its end).
+-- What the packet book promises after every list of calls (01, The packet book, its end; 02, U8).
 use mathlib.Core.Bool.{Bool, true, _&&_}
 use mathlib.Core.List.{List, List·Memᴰ as Mem}
 use mathlib.Core.Path.{_≡_}

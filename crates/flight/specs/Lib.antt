@@ -1,2 +1,2 @@
--- Flights, in 01's words.
+-- Flights, in the words of 01 and 02.
 pub mod Flight

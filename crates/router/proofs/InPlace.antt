@@ -17,9 +17,11 @@ use Rattle.router.proofs.Path.{OnPath}
 
 module _ (p : Plan) (f : Flow) (ok : FlowOk (p .sx) (p .sy) f) (c D : ℕ) where
   -- with at most a deflection a row
-  pub path-in-place : (limit : ℕ → ℕ) → ((n : ℕ) → limit n ≤ n) → (e : ℕ) (at : Place) → OnPath p f limit c D e at → inPlace (p .sx) (p .sy) f at D (c - e) ≡ true
+  pub path-in-place : (limit : ℕ → ℕ) → ((n : ℕ) → limit n ≤ n) → (e : ℕ) (at : Place) → OnPath p f limit c D e at
+      → inPlace (p .sx) (p .sy) f at D (c - e) ≡ true
   path-in-place limit most e (N x y) h =
-      in-north (p .sx) (p .sy) f x y D (c - e) (h .column) (h .least) (h .most) (omega (arith, h .few, h .least, most (rowsDone (p .sy) f y - 1))) (omega (arith, h .time))
+      in-north (p .sx) (p .sy) f x y D (c - e) (h .column) (h .least) (h .most)
+      (omega (arith, h .few, h .least, most (rowsDone (p .sy) f y - 1))) (omega (arith, h .time))
   path-in-place limit most e (W x y) (inl h) =
       in-first-row (p .sx) (p .sy) f x y D (c - e) (ap (rowsDone (p .sy) f) (h .row) ∙ offset-same (p .sy) (f .ys) (ok .ys-on))
       (h .least) (h .most) (h .none) (omega (arith, h .time))

@@ -237,7 +237,9 @@ module _ (p : Plan) (f : Flow) where
             let rows : r y * suc sx ≡ 0 * suc sx = ap (λ (n : ℕ). n * suc sx) none in
             let come = along-first x y none in
             elim (ℕ-discrete x (f .xd)) [
-              | yes turn ↦ rw (eq-eqb x (f .xd) turn) (leads-more (omega (arith, s .most, dx-below)) (south c D e x y (placed-south c D e (W x y) (inl s) turn)))
+              | yes turn ↦
+                  rw (eq-eqb x (f .xd) turn)
+                  (leads-more (omega (arith, s .most, dx-below)) (south c D e x y (placed-south c D e (W x y) (inl s) turn)))
               | no other ↦
                   let short = offset-short sx (f .xs) x (f .xd) (ok .xs-on) (s .column) (ok .xd-on) (s .most) other in
                   rw (ne-eqb x (f .xd) other, s .none) (leads-more (omega arith) (east-first c e x y (s .column) (s .row) short (s .time)))
@@ -252,7 +254,8 @@ module _ (p : Plan) (f : Flow) where
                   let on = lap-next sx (f .xd) x (ok .xd-on) (s .column) other in
                   rw (ne-eqb x (f .xd) other)
                   (leads-more (omega arith)
-                  (east-later c D e x y (r y * suc sx + k x) (s .column) (s .row) (s .least) (s .most) (s .some) (s .few) (s .turning) (omega (arith, s .time)) (omega arith)))
+                  (east-later c D e x y (r y * suc sx + k x) (s .column) (s .row) (s .least) (s .most) (s .some) (s .few) (s .turning)
+                  (omega (arith, s .time)) (omega arith)))
             ]
 
       -- an entry, by rule 3: in cycle c, at the source, by the flow's port

@@ -1,5 +1,5 @@
 -- What the calls' own answers tell of a whole list from an accepted file's reset: a planner reads windows and flight bounds off the
--- calls, and the packet book bears them out (01, Windows; State memory; The packet book; 02, U4, U6).
+-- calls, and the packet book bears them out (01, Windows; State memory; The packet book; 02, U3, U4, U6, U8).
 use mathlib.Core.Bool.{true, false}
 use mathlib.Core.List.{List, [], _∷_, _++_, List·Memᴰ as Mem}
 use mathlib.Core.Path.{_≡_}

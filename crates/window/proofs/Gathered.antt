@@ -93,7 +93,9 @@ module _ (p : Plan) (f m : ℕ) (l : List ℕ) (k : Kept) (h : RivalsAmong p f m
           room = simp length-set (h .room);
           sum = λ t. with-demand l n (flowAt p m) j room t ∙ sym (rw e at (next-sum t));
           rates-most = omega (arith, h .rates-most, div-le-self wholeLink ((flowAt p m) .period));
-          paced = λ t from. rw (with-demand l n (flowAt p m) j room t) (pace-more _ _ (flowAt p m) t j (g .burst-least) (g .period-least) from (h .paced t from));
+          paced = λ t from.
+              rw (with-demand l n (flowAt p m) j room t)
+              (pace-more _ _ (flowAt p m) t j (g .burst-least) (g .period-least) from (h .paced t from));
         }
 
     -- flow m with its conflict

@@ -25,7 +25,7 @@ rivalShare l t k = curve (getD l (rivalWords * k) 0) (getD l (rivalWords * k + 1
 unfoldable pub demandOf : List ℕ → ℕ → ℕ → ℕ
 demandOf l n t = sumBelow n (rivalShare l t)
 
--- rival number k of the words l has numbers in range
+-- rival number k of the words l: its burst is in range, its period at least 1, and its spread small
 pub record RivalOk (l : List ℕ) (k : ℕ) : Type 0 where
   pub burst-least : 1 ≤ getD l (rivalWords * k) 0
   pub burst-most : getD l (rivalWords * k) 0 ≤ mostBurst
@@ -38,12 +38,12 @@ pub record Rivals (l : List ℕ) (n : ℕ) : Type 0 where
   pub long : rivalWords * n ≤ length l
   pub rival-ok : (k : ℕ) → k < n → RivalOk l k
 
--- a link that is filled, in parts of a packet per cycle; the rate of a flow is that many divided by its period
+-- the parts in which a link, one packet a cycle, is counted; a flow of period P has the rate of ⌊2^31/P⌋ of them a cycle
 abbrev pub wholeLink : ℕ
 wholeLink = 2147483648
 
--- the words l hold the rivals kept, those of flow number f among the first m flows: together they add to I(t) what those flows do, and their
--- rates are no more than that
+-- the words l hold the rivals kept, those of flow number f among the first m flows: together they add to I(t) what those flows do. Their
+-- rates are a whole link each at most, and t cycles of them no more packets than they add to I(t).
 pub record RivalsAmong (p : Plan) (f m : ℕ) (l : List ℕ) (k : Kept) : Type 0 where
   pub words : Rivals l (k .count)
   pub few : k .count ≤ m

@@ -17,10 +17,10 @@ pub const RIVAL_WORDS: usize = 3;
 // The words of 256 rivals.
 pub const MOST_RIVAL_WORDS: usize = 768;
 
-// A link that is filled, in parts of a packet per cycle.
+// The parts in which a link, one packet a cycle, is counted.
 const WHOLE_LINK: u32 = 2147483648;
 
-// The rivals kept so far: how many, and the sum of their rates in those parts.
+// The rivals kept so far: how many, and the sum of their rates, in those parts a cycle.
 pub struct Kept {
     pub count: usize,
     pub rates: u64,
