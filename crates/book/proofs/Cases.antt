@@ -60,7 +60,8 @@ each (d ∷ cs) all c (there m) = each cs (all .1) c m
 rows : AllHold starred
 unfolding Bounded.tabulate Bounded.firstBelow Bounded.sumBelow Axis.offset Axis.next Regulator.afterCount Regulator.afterCycle Links.reach
     Curve.ceiling Curve.curve Turning.isTurning Turning.rowsSouth Conflict.conflict Conflict.conflictBy Conflict.conflictEast
-    Conflict.conflictSouth Window.share Window.shareOf Window.interference Window.leastFrom Window.windowOf Rule.turnsSouth Rule.isOpen Rule.ready Rule.enters holds sent lowest deliveries refusal feed
+    Conflict.conflictSouth Window.share Window.shareOf Window.interference Window.leastFrom Window.windowOf Rule.turnsSouth
+    Rule.isOpen Rule.ready Rule.enters holds sent lowest deliveries refusal feed
     Limits.offerNumber Limits.stepNumber
 rows = (refl, ((refl, refl), ((refl, refl), (refl, ((refl, refl), ((refl, refl), ((refl, refl), windows)))))))
   where

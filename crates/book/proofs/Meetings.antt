@@ -68,9 +68,15 @@ meeting-conflict p f g =
             | inl t ↦ rw (other, east, row, t)
             | inr t ↦ rw (other, east, row, t)
           ]
-          | inr row ↦ elim (test (leb (rowsTo (p .sy) f g) (ΔY (p .sy) g) && isTurning p (g .xd) (f .ys))) [ inl t ↦ rw (other, east, row, t) | inr t ↦ rw (other, east, row, t) ]
+          | inr row ↦ elim (test (leb (rowsTo (p .sy) f g) (ΔY (p .sy) g) && isTurning p (g .xd) (f .ys))) [
+            | inl t ↦ rw (other, east, row, t)
+            | inr t ↦ rw (other, east, row, t)
+          ]
         ]
-        | inr south ↦ elim (test (eqb (g .xd) (f .xs) && leb (rowsTo (p .sy) f g) (ΔY (p .sy) g))) [ inl t ↦ rw (other, south, t) | inr t ↦ rw (other, south, t) ]
+        | inr south ↦ elim (test (eqb (g .xd) (f .xs) && leb (rowsTo (p .sy) f g) (ΔY (p .sy) g))) [
+          | inl t ↦ rw (other, south, t)
+          | inr t ↦ rw (other, south, t)
+        ]
       ]
     ]
 

@@ -52,8 +52,9 @@ module _ (p : Plan) (b : Book) (law : Lawful p b) (apart : Apart b) where
 
       on : (l : Line) → Mem l ((stepped p b) .lines) → there l ≡ true → (columnOf at < p .sx) × (rowOf at < p .sy)
       on l m h =
-          placed-on p (flowAt p (l .flow)) (mostBy p (flowAt p (l .flow))) (line-ok p (law .plan) (stepped p b) after l m) (b .clock + 1) (l .D) (entryOf (l .stage)) at
-          (stands-path p (flowAt p (l .flow)) (b .clock + 1) (l .D) at (l .stage) (after .sound l m) h)
+          let φ = flowAt p (l .flow) in
+          placed-on p φ (mostBy p φ) (line-ok p (law .plan) (stepped p b) after l m) (b .clock + 1) (l .D) (entryOf (l .stage)) at
+          (stands-path p φ (b .clock + 1) (l .D) at (l .stage) (after .sound l m) h)
 
 pub apart-offer : (b : Book) → Apart b → (f : ℕ) → Apart (offered b f)
 apart-offer b apart f at = omega (arith, apart at, count-append (λ (l : Line). standsIn at (l .stage)) (b .lines) (offeredLine b f ∷ []))

@@ -61,10 +61,12 @@ module _ (p : Plan) (b : Book) (k : Kept p b) where
   in-register l m at h =
       let law = k .lawful in
       let φ = flowAt p (l .flow) in
+      let fits = line-ok p (law .plan) b (law .traced) l m in
       let path = stands-path p φ (b .clock) (l .D) at (l .stage) (law .traced .sound l m) h in
+      let few = south-most (p .sy) (isTurning p (φ .xd)) (φ .ys) in
       record {
         least = serial-range b (law .queued) l m .0;
         most = entered-within b (law .queued) l m (stands-entered at (l .stage) h);
-        before = entered-before p φ (mostBy p φ) (line-ok p (law .plan) b (law .traced) l m) (b .clock) (l .D) (entryOf (l .stage)) at path;
-        in-place = path-in-place p φ (line-ok p (law .plan) b (law .traced) l m) (b .clock) (l .D) (mostBy p φ) (south-most (p .sy) (isTurning p (φ .xd)) (φ .ys)) (entryOf (l .stage)) at path;
+        before = entered-before p φ (mostBy p φ) fits (b .clock) (l .D) (entryOf (l .stage)) at path;
+        in-place = path-in-place p φ fits (b .clock) (l .D) (mostBy p φ) few (entryOf (l .stage)) at path;
       }

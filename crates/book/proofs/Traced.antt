@@ -20,10 +20,10 @@ use Rattle.turning.specs.Turning.{isTurning, turningRows}
 use Rattle.flow.specs.Ranges.{FlowOk, PlanOk}
 use Rattle.turning.proofs.Turning.{turns-own, south-rises, south-step, step-south}
 use Rattle.place.specs.Place.{Place, W, N, columnOf, rowOf}
-use Rattle.router.specs.Rule.{turnsSouth, Way, via, leave, wayIn}
+use Rattle.router.specs.Rule.{turnsSouth, deflects, Way, via, leave, wayFrom, wayIn}
 use Rattle.router.proofs.Links.{place-same}
 use Rattle.router.proofs.Limit.{Rising}
-use Rattle.router.proofs.Path.{OnPath, AtExit, Arrives, MayBend, progressBy, whole, step-placed, step-entry}
+use Rattle.router.proofs.Path.{OnPath, AtExit, Arrives, Leads, MayBend, progressBy, whole, step-placed, step-entry}
 use Rattle.router.proofs.Path as Path
 use Rattle.book.specs.Line.{Stage, waiting, placed, left, Line, isWaiting, standsIn, entryOf}
 use Rattle.book.specs.Book.{Book, offered}
@@ -106,7 +106,8 @@ module _ (p : Plan) (ok : PlanOk p) (b : Book) (tr : Traced p b) where
   may-bend : (f : Flow) → FlowOk (p .sx) (p .sy) f → (D e : ℕ) (at : Place) → OnPath p f (mostBy p f) (b .clock) D e at
       → MayBend p f (mostBy p f) (seen p b (columnOf at) (rowOf at)) at
   may-bend f on D e (N x y) h t =
-      omega (arith, south-step (p .sy) (isTurning p (f .xd)) (f .ys) (on .ys-on) y (h .row) (h .least) (rw (h .column) at (holder-turns x y (held p b (W x y)) t)))
+      let turns = rw (h .column) at (holder-turns x y (held p b (W x y)) t) in
+      omega (arith, south-step (p .sy) (isTurning p (f .xd)) (f .ys) (on .ys-on) y (h .row) (h .least) turns)
   may-bend f on D e (W x y) h t = absurd (false≢true t)
 
 module _ (p : Plan) (plan : PlanOk p) (b : Book) (tr : Traced p b) (l : Line) (ok : FlowOk (p .sx) (p .sy) (flowAt p (l .flow))) where
@@ -116,6 +117,12 @@ module _ (p : Plan) (plan : PlanOk p) (b : Book) (tr : Traced p b) (l : Line) (o
   abbrev c : ℕ
   c = b .clock
 
+  -- a packet in place goes on by the rule
+  placed-leads : (D e : ℕ) (at : Place) → OnPath p φ (mostBy p φ) c D e at → let v = seen p b (columnOf at) (rowOf at) in
+      Leads p φ (mostBy p φ) c (D + one (deflects v at)) e (columnOf at) (rowOf at) (Path.progress p φ at) (wayFrom v at φ)
+  placed-leads D e at h =
+      step-placed p φ (mostBy p φ) ok (most-rising p φ) (seen p b (columnOf at) (rowOf at)) c D e at h (may-bend p plan b tr φ ok D e at h)
+
   -- a line's step, from any stage
   moved-sound : (D : ℕ) (s : Stage) → Sound p φ c D s → Sound p φ (c + 1) (D + one (isDeflected p b s)) (moveStage p b l s)
   moved-sound D waiting h =
@@ -124,15 +131,13 @@ module _ (p : Plan) (plan : PlanOk p) (b : Book) (tr : Traced p b) (l : Line) (o
         | inr stay ↦ rw stay (omega arith)
       ]
   moved-sound D (placed e at) h =
-      let v = seen p b (columnOf at) (rowOf at) in
-      sent-sound p φ c _ e (columnOf at) (rowOf at) (output p b φ at) (step-placed p φ (mostBy p φ) ok (most-rising p φ) v c D e at h (may-bend p plan b tr φ ok D e at h) .sound)
+      sent-sound p φ c _ e (columnOf at) (rowOf at) (output p b φ at) (placed-leads D e at h .sound)
   moved-sound D (left e t x y) h = rw add-zero (record { out = h .out; past = omega (arith, h .past) })
 
   pub moved-progress : (D : ℕ) (s : Stage) → Sound p φ c D s → progress p φ s ≤ progress p φ (moveStage p b l s)
   moved-progress D waiting h = omega arith
   moved-progress D (placed e at) h =
-      rw (sent-progress p φ c e (columnOf at) (rowOf at) (output p b φ at))
-      (omega (arith, step-placed p φ (mostBy p φ) ok (most-rising p φ) (seen p b (columnOf at) (rowOf at)) c D e at h (may-bend p plan b tr φ ok D e at h) .rises))
+      rw (sent-progress p φ c e (columnOf at) (rowOf at) (output p b φ at)) (omega (arith, placed-leads D e at h .rises))
   moved-progress D (left e t x y) h = le-refl _
 
 module _ (p : Plan) (ok : PlanOk p) (b : Book) (tr : Traced p b) where

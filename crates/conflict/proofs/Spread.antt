@@ -22,6 +22,11 @@ pub data SpreadMost : Conflict → Type 0 where
   none : SpreadMost Free
   some : {j : ℕ} → j ≤ mostSpread → SpreadMost (Spread j)
 
+-- at most all rows of the torus, a lap round the row for each
+pub laps-most : (sx sy : ℕ) → sx ≤ mostSize → sy ≤ mostSize → (turns : ℕ → Bool) (g : Flow) (r : ℕ) → r ≤ sy → laps sx sy turns g r ≤ mostSpread
+laps-most sx sy narrow short turns g r few =
+    mul-le-mul {n₂ = mostSize} {m₂ = mostSize} (omega (arith, south-most sy turns (g .ys) r)) narrow
+
 either : (b : Bool) {c d : Conflict} → SpreadMost c → SpreadMost d → SpreadMost (cond b c d)
 either true h k = h
 either false h k = k
@@ -31,21 +36,20 @@ module _ (sx sy : ℕ) (f g : Flow) (h : Pair sx sy f g) where
   rows-below = offset-below sy (g .ys) (f .ys) (h .other .ys-on) (h .own .ys-on)
 
   module _ (turns : ℕ → Bool) where
-    -- at most all rows of the torus, a lap round the row for each
-    pub laps-most : (r : ℕ) → r ≤ sy → laps sx sy turns g r ≤ mostSpread
-    laps-most r few = mul-le-mul {n₂ = mostSize} {m₂ = mostSize} (omega (arith, south-most sy turns (g .ys) r, h .sy-most)) (h .sx-most)
+    few-laps : (r : ℕ) → r ≤ sy → laps sx sy turns g r ≤ mostSpread
+    few-laps = laps-most sx sy (h .sx-most) (h .sy-most) turns g
 
     east-most : SpreadMost (conflictEast sx sy turns f g)
     unfolding conflictEast
     east-most =
         either (eqb (rowsTo sy f g) 0)
         (either (leb 1 (columnsTo sx f g) && leb (columnsTo sx f g) (ΔX sx g)) (some {j = 0} (omega arith)) none)
-        (either (leb (rowsTo sy f g) (ΔY sy g) && turns (f .ys)) (some (laps-most (rowsTo sy f g - 1) (omega (arith, rows-below)))) none)
+        (either (leb (rowsTo sy f g) (ΔY sy g) && turns (f .ys)) (some (few-laps (rowsTo sy f g - 1) (omega (arith, rows-below)))) none)
 
     south-spread : SpreadMost (conflictSouth sx sy turns f g)
     unfolding conflictSouth
     south-spread =
-        either (eqb (g .xd) (f .xs) && leb (rowsTo sy f g) (ΔY sy g)) (some (laps-most (rowsTo sy f g) (omega (arith, rows-below)))) none
+        either (eqb (g .xd) (f .xs) && leb (rowsTo sy f g) (ΔY sy g)) (some (few-laps (rowsTo sy f g) (omega (arith, rows-below)))) none
 
     pub spread-most : SpreadMost (conflictBy sx sy turns f g)
     unfolding conflictBy

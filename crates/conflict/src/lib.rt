@@ -2,16 +2,25 @@
 use flow::Flow;
 use flow::Port;
 ghost use mathlib.Core.Path.{_≡_};
-ghost use Prim.Native.Nat.{_^_, _<_};
+ghost use Prim.Native.Nat.{_^_, _<_, _≤_};
 ghost use Rattle.laws.specs.Bits.{isSet};
 ghost use Rattle.flow.specs.Offsets.{portOf};
-ghost use Rattle.conflict.specs.Conflict.{conflictBy, conflictEast, conflictSouth};
+ghost use Rattle.flow.specs.Plan.{mostSize};
+ghost use Rattle.conflict.specs.Conflict.{laps, conflictBy, conflictEast, conflictSouth};
 ghost use Rattle.conflict.specs.Inner.{Pair};
 
 // How a flow meets another at its source: not at all, or in conflict with the spread J.
 pub enum Conflict {
     Free,
     Spread(u32),
+}
+
+// A lap round the row for each row of the word among the first n south of g's source.
+fn laps(sx: u32, sy: u32, word: u32, g: Flow, n: u32) -> u32
+    requires { ⌜ (sx ≤ mostSize) × ((sy ≤ mostSize) × ((word < 2 ^ sy) × ((g .ys < sy) × (n ≤ sy)))) ⌝ }
+    ensures { λ r. ⌜ r ≡ laps sx sy (isSet word) g n ⌝ }
+{
+    turning::rows_south(sy, word, g.ys, n) * sx
 }
 
 // f's port is E and g's client is another. The word has the rows that turn for g's destination column.
@@ -33,7 +42,7 @@ fn conflict_east(sx: u32, sy: u32, word: u32, f: Flow, g: Flow) -> Conflict
     let on_way = torus::on_way(sy, g.ys, f.ys, g.yd);
     let row = if on_way { f.ys } else { turning::NO_ROW };
     if turning::has_row(word, row) {
-        return Conflict::Spread(turning::rows_south(sy, word, g.ys, rows - 1) * sx);
+        return Conflict::Spread(laps(sx, sy, word, g, rows - 1));
     }
     Conflict::Free
 }
@@ -48,7 +57,7 @@ fn conflict_south(sx: u32, sy: u32, word: u32, f: Flow, g: Flow) -> Conflict
     }
     if torus::on_way(sy, g.ys, f.ys, g.yd) {
         let rows = torus::offset(sy, g.ys, f.ys);
-        return Conflict::Spread(turning::rows_south(sy, word, g.ys, rows) * sx);
+        return Conflict::Spread(laps(sx, sy, word, g, rows));
     }
     Conflict::Free
 }

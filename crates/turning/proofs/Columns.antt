@@ -48,7 +48,12 @@ rows-counted sy word y n below on few =
 pub rows-told : (sy word y n : ℕ) → sy ≤ mostSize → word < 2 ^ sy → y < sy → n ≤ sy
     → ones (bitAnd (bitOr (word * 2 ^ sy % 4294967296) word / 2 ^ (y + 1)) (1 * 2 ^ n % 4294967296 - 1)) ≡ rowsSouth sy (isSet word) y n
 rows-told sy word y n most below on few =
-    rw (shl-exact {a = word} sy sy 32 below (omega arith), or-shifted word sy word below, bit-fits n (omega arith), and-mask ((word * 2 ^ sy + word) / 2 ^ (y + 1)) n)
+    rw (
+      shl-exact {a = word} sy sy 32 below (omega arith),
+      or-shifted word sy word below,
+      bit-fits n (omega arith),
+      and-mask ((word * 2 ^ sy + word) / 2 ^ (y + 1)) n,
+    )
     (rows-counted sy word y n below on few)
 
 -- no flow, no row

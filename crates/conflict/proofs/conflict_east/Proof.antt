@@ -1,8 +1,7 @@
 -- `conflict_east`: the definition's own tests, on what the calls return.
-use mathlib.Core.Bool.{_&&_}
+use mathlib.Core.Bool.{cond, _&&_}
 use mathlib.Core.Logic.{inl, inr}
-use mathlib.Core.Path.{_≡_, ap}
-use Prim.Native.Nat.{ℕ, _-_, _*_}
+use mathlib.Core.Path.{_≡_}
 use borrow.Author.Needs.{needs}
 use borrow.Author.Tests.{le-leb, eq-eqb, ne-eqb}
 use native.Mathlib.Omega.{arith}
@@ -10,8 +9,9 @@ use Rattle.laws.specs.Bits.{isSet}
 use Rattle.laws.proofs.Bits.{set-above}
 use Rattle.laws.proofs.Cases.{cases}
 use Rattle.flow.specs.Plan.{mostSize}
+use Rattle.conflict.specs.declared.Conflict.the-variants.{Free, Spread}
 use Rattle.conflict.specs.Conflict.{conflictEast}
-use Rattle.conflict.proofs.Spread.{laps-most, rows-below}
+use Rattle.conflict.proofs.Spread.{rows-below}
 use Rattle.conflict.proofs.conflict_east.Statement.{statement}
 use Rattle.conflict.proofs.conflict_east.Tie as tie
 
@@ -19,31 +19,25 @@ returns : tie.Need-returns
 unfolding conflictEast
 returns c = search (cases, ← (c .before .before .before .offset .ensures), ← (c .before .offset2 .ensures))
 
-returns-2 : tie.Need-returns-2
+-- in f's row: by the columns on g's way
+in-row : (c : tie.After-on-way) → let a = c .before .before .before .before .before .args in
+    cond (c .on-way .result) (Spread 0) Free ≡ conflictEast (a .sx) (a .sy) (isSet (a .word)) (a .f) (a .g)
 unfolding conflictEast
-returns-2 c =
-    let columns = c .before .before .before in
+in-row c =
+    let columns = c .before .before in
     rw (
-      ← (c .before .on-way .ensures),
-      c .if3 .taken,
+      ← (c .on-way .ensures),
       ← (columns .before .before .offset .ensures),
       eq-eqb _ _ (columns .before .if1 .taken),
       ← (columns .offset2 .ensures),
-      le-leb _ _ (c .before .before .if2 .left),
+      le-leb _ _ (c .before .if2 .left),
     )
 
+returns-2 : tie.Need-returns-2
+returns-2 c = rw (c .if3 .taken) at (in-row (c .before))
+
 returns-3 : tie.Need-returns-3
-unfolding conflictEast
-returns-3 c =
-    let columns = c .before .before .before in
-    rw (
-      ← (c .before .on-way .ensures),
-      c .if3 .left,
-      ← (columns .before .before .offset .ensures),
-      eq-eqb _ _ (columns .before .if1 .taken),
-      ← (columns .offset2 .ensures),
-      le-leb _ _ (c .before .before .if2 .left),
-    )
+returns-3 c = rw (c .if3 .left) at (in-row (c .before))
 
 has-row-requires : tie.Need-has-row-requires
 has-row-requires c κs =
@@ -63,19 +57,11 @@ meets c =
       | inr off ↦ rw (c .has-row .ensures, off .1, off .0 .left, set-above _ _ mostSize (p .1) (p .0 .sy-most))
     ]
 
-rows-south-requires : tie.Need-rows-south-requires
-rows-south-requires c κs =
+laps-requires : tie.Need-laps-requires
+laps-requires c κs =
     let rows = c .before .before .before .before .before in
     let p = rows .before .pre in
-    (p .0 .sy-most, (p .1, (p .0 .other .ys-on, omega (arith, rows .offset .ensures, rows-below _ _ _ _ (p .0)))))
-
-mul-t17 : tie.Need-mul-t17
-mul-t17 c =
-    let rows = c .before .before .before .before .before .before in
-    let start = rows .before in
-    let below = rows-below _ _ _ _ (start .pre .0) in
-    let small = laps-most _ _ _ _ (start .pre .0) (isSet (start .args .word)) (rows .offset .result - 1) (omega (arith, rows .offset .ensures)) in
-    omega (arith, ap (λ (n : ℕ). n * start .args .sx) (c .rows-south .ensures))
+    (p .0 .sx-most, (p .0 .sy-most, (p .1, (p .0 .other .ys-on, omega (arith, rows .offset .ensures, rows-below _ _ _ _ (p .0))))))
 
 returns-4 : tie.Need-returns-4
 unfolding conflictEast
@@ -88,7 +74,7 @@ returns-4 c =
       c .before .if5 .taken,
       ← (way .before .before .offset .ensures),
       ne-eqb _ _ (way .before .if1 .left),
-      ← (c .rows-south .ensures),
+      ← (c .laps .ensures),
     )
 
 returns-5 : tie.Need-returns-5
@@ -106,4 +92,4 @@ returns-5 c =
 pub conflict-east-spec : {M : Type 1} → statement M
 conflict-east-spec =
     tie.close (tie.spec (λ c κs. search needs) (λ c κs. search needs) returns (λ c κs. search needs) returns-2 returns-3
-    (λ c κs. search needs) has-row-requires (λ c. search needs) rows-south-requires mul-t17 returns-4 returns-5)
+    (λ c κs. search needs) has-row-requires (λ c. search needs) laps-requires returns-4 returns-5)

@@ -1,13 +1,10 @@
 -- `conflict_south`: the definition's own tests, on what the calls return.
-use mathlib.Core.Path.{ap}
-use Prim.Native.Nat.{ℕ, _*_}
 use borrow.Author.Needs.{needs}
 use borrow.Author.Tests.{eq-eqb}
 use native.Mathlib.Omega.{arith}
-use Rattle.laws.specs.Bits.{isSet}
 use Rattle.laws.proofs.Cases.{cases}
 use Rattle.conflict.specs.Conflict.{conflictSouth}
-use Rattle.conflict.proofs.Spread.{laps-most, rows-below}
+use Rattle.conflict.proofs.Spread.{rows-below}
 use Rattle.conflict.proofs.conflict_south.Statement.{statement}
 use Rattle.conflict.proofs.conflict_south.Tie as tie
 
@@ -15,18 +12,10 @@ returns : tie.Need-returns
 unfolding conflictSouth
 returns c = search cases
 
-rows-south-requires : tie.Need-rows-south-requires
-rows-south-requires c κs =
+laps-requires : tie.Need-laps-requires
+laps-requires c κs =
     let p = c .before .before .before .before .before .before .pre in
-    (p .0 .sy-most, (p .1, (p .0 .other .ys-on, omega (arith, c .offset .ensures, rows-below _ _ _ _ (p .0)))))
-
-mul-t10 : tie.Need-mul-t10
-mul-t10 c =
-    let rows = c .before in
-    let start = rows .before .before .before .before .before .before in
-    let below = rows-below _ _ _ _ (start .pre .0) in
-    let small = laps-most _ _ _ _ (start .pre .0) (isSet (start .args .word)) (rows .offset .result) (omega (arith, rows .offset .ensures)) in
-    omega (arith, ap (λ (n : ℕ). n * start .args .sx) (c .rows-south .ensures))
+    (p .0 .sx-most, (p .0 .sy-most, (p .1, (p .0 .other .ys-on, omega (arith, c .offset .ensures, rows-below _ _ _ _ (p .0))))))
 
 returns-2 : tie.Need-returns-2
 unfolding conflictSouth
@@ -37,7 +26,7 @@ returns-2 c =
       c .before .before .if2 .taken,
       eq-eqb _ _ (way .before .if1 .left),
       ← (c .before .offset .ensures),
-      ← (c .rows-south .ensures),
+      ← (c .laps .ensures),
     )
 
 returns-3 : tie.Need-returns-3
@@ -46,4 +35,4 @@ returns-3 c = rw (← (c .before .on-way .ensures), c .if2 .left, eq-eqb _ _ (c 
 
 pub conflict-south-spec : {M : Type 1} → statement M
 conflict-south-spec =
-    tie.close (tie.spec returns (λ c κs. search needs) (λ c κs. search needs) rows-south-requires mul-t10 returns-2 returns-3)
+    tie.close (tie.spec returns (λ c κs. search needs) (λ c κs. search needs) laps-requires returns-2 returns-3)

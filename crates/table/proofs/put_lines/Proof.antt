@@ -14,7 +14,8 @@ use Rattle.table.proofs.put_lines.Statement.{statement}
 use Rattle.table.proofs.put_lines.Tie as tie
 
 abbrev Inv-loop : tie.InvT-loop
-Inv-loop file t out₀ at columns count next₀ f₀ out next f = (f ≤ count) × ((next ≤ at + mostLine * f) × Wrote out₀ at (joinBelow f (line (planOf file))) next out)
+Inv-loop file t out₀ at columns count next₀ f₀ out next f =
+    (f ≤ count) × ((next ≤ at + mostLine * f) × Wrote out₀ at (joinBelow f (line (planOf file))) next out)
 
 abbrev μ-loop : tie.MeasureT-loop
 μ-loop file t out₀ at columns count next₀ f₀ out next f = count - f
@@ -47,5 +48,5 @@ returns c =
 
 pub put-lines-spec : {M : Type 1} → statement M
 put-lines-spec =
-    tie.close (tie.spec Inv-loop μ-loop (λ c κs. c .before .before .pre .0) loop-holds (λ c. search needs) put-line-requires (λ c. omega arith) (λ c. omega arith)
-    loop-again same-length returns)
+    tie.close (tie.spec Inv-loop μ-loop (λ c κs. c .before .before .pre .0) loop-holds (λ c. search needs) put-line-requires
+    (λ c. omega arith) (λ c. omega arith) loop-again same-length returns)
