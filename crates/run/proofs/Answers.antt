@@ -37,7 +37,7 @@ use Rattle.state.specs.Layout.{planSize}
 use Rattle.state.specs.Reset.{resetOn}
 use Rattle.reset.proofs.Leaves.{reset-done}
 use Rattle.writing.proofs.Back.{file-back}
-use Rattle.run.specs.List.{justWords, Whole, Asked, offer, offerSet, reset, Item, onMemory, memoryAfter}
+use Rattle.run.specs.Calls.{justWords, Whole, Asked, offer, offerSet, reset, Item, onMemory, memoryAfter}
 use Rattle.run.specs.List.{feeds, role, roleIn, IsList, fedAs, fed, due, Follows}
 use Rattle.run.specs.Answers.{bookAfter, HasRun, EnteredBy, acceptedLine, entryLine, EveryAnswer}
 use Rattle.run.proofs.Memory.{plan-is}

@@ -31,7 +31,8 @@ use Rattle.cycle.proofs.Steps.{steps-refused}
 use Rattle.recent.specs.declared.Recent.{Recent}
 use Rattle.feed.specs.Feed.{plannedOn, feedOn}
 use Rattle.run.specs.View.{bookState}
-use Rattle.run.specs.List.{withReasons, justWords, justRecords, whole, offer, offerSet, step, stepReasons, steps, write, recent, onWords, filled}
+use Rattle.run.specs.Calls.{withReasons, justWords, justRecords, whole, offer, offerSet, step, stepReasons, steps, write, recent, onWords}
+use Rattle.run.specs.List.{filled}
 use Rattle.run.proofs.View.{reasons-agree}
 use Rattle.run.proofs.Step.{step-follows}
 use Rattle.run.proofs.Delivery.{deliveries-follow}

@@ -39,8 +39,8 @@ use Rattle.cycle.specs.Step.{stepOn}
 use Rattle.cycle.specs.Reasons.{stepReasonsOn}
 use Rattle.cycle.specs.Steps.{stepsOn}
 use Rattle.feed.specs.Feed.{feedOn}
-use Rattle.run.specs.List.{Beside, justWords, Whole, whole, Asked, offer, offerSet, step, stepReasons, steps, write, recent, reset, onWords}
-use Rattle.run.specs.List.{Item, onMemory, memoryAfter}
+use Rattle.run.specs.Calls.{Beside, justWords, Whole, whole, Asked, offer, offerSet, step, stepReasons, steps, write, recent, reset, onWords}
+use Rattle.run.specs.Calls.{Item, onMemory, memoryAfter}
 use Rattle.run.specs.List.{Role, feeds, between, resets, role, tooLittle, roleIn}
 use Rattle.run.specs.List.{IsList, fedAs, fed, beside, outcomes, bookMemory, due, expected}
 use Rattle.run.specs.List.{Follows, EveryList}

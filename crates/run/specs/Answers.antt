@@ -24,7 +24,8 @@ use Rattle.state.specs.Layout.{flowPlace}
 use Rattle.state.specs.Read.{clockIn, tallyIn}
 use Rattle.state.specs.Outcome.{outcome, over}
 use Rattle.state.specs.Writing.{writeOn}
-use Rattle.run.specs.List.{offer, offerSet, Item, onMemory, memoryAfter, fed, OfEveryList}
+use Rattle.run.specs.Calls.{offer, offerSet, Item, onMemory, memoryAfter}
+use Rattle.run.specs.List.{fed, OfEveryList}
 
 -- the packet book after a list from the file's reset
 abbrev pub bookAfter : (file : List ℕ) → List Item → Book

@@ -1,14 +1,13 @@
 -- A whole list of calls on one state, after an accepted reset, and what it comes to: every answer, every word delivered and
 -- every word of the state are the packet book's (01, The packet book; 02, U4, U6, U7; many steps in one call).
--- A later request's call is one case more of `Asked`, `onWords` and `role`; all else is said of any call.
+-- A later request's call is one case more of `role`, beside those in Calls; all else is said of any call.
 use mathlib.Core.Bool.{cond}
 use mathlib.Core.List.{List, [], _∷_, _++_}
 use mathlib.Core.Logic.{_≢_}
 use mathlib.Core.Path.{_≡_}
 use Prim.Native.Nat.{ℕ, _<_}
 use lib.Dec.{ltb}
-use lib.ListN.{length, getD, take, drop}
-use Rattle.flow.specs.declared.Offerer.{Offerer}
+use lib.ListN.{length, getD, drop}
 use Rattle.flow.specs.Plan.{Plan}
 use Rattle.plan.specs.declared.Answer.{Answer}
 use Rattle.plan.specs.declared.Answer.the-variants.{Done}
@@ -21,86 +20,15 @@ use Rattle.book.specs.Feed as Feed
 use Rattle.book.specs.Promises.{Promises}
 use Rattle.state.specs.Words.{stateWords}
 use Rattle.state.specs.Forms.{stateNumber}
-use Rattle.state.specs.Outcome.{Outcome, outcome, Lent, refused, over}
+use Rattle.state.specs.Outcome.{Outcome, outcome, refused, over}
 use Rattle.state.specs.Layout.{planSize}
 use Rattle.state.specs.Reset.{resetOn}
-use Rattle.state.specs.Writing.{bytesOn, writeOn}
-use Rattle.cycle.specs.Offer.{offerOn}
-use Rattle.cycle.specs.Set.{offerSetOn}
-use Rattle.cycle.specs.Step.{stepOn}
-use Rattle.cycle.specs.Reasons.{Telling, stepReasonsOn}
-use Rattle.cycle.specs.Steps.{stepsOn}
+use Rattle.state.specs.Writing.{bytesOn}
 use Rattle.recent.specs.declared.Recent.{Recent}
-use Rattle.feed.specs.Feed.{plannedOn, feedOn}
+use Rattle.feed.specs.Feed.{plannedOn}
 use Rattle.run.specs.View.{bookState}
-
--- what is lent to a call beside the state memory: a step's delivery memory or the target of writing; a reason list; records of
--- recent flights
-pub record Beside : Type 0 where
-  pub words : List ℕ
-  pub reasons : List ℕ
-  pub records : List Recent
-
-abbrev pub withReasons : (words reasons : List ℕ) → Beside
-withReasons words reasons = record { words = words; reasons = reasons; records = [] }
-
-abbrev pub justWords : List ℕ → Beside
-justWords words = withReasons words []
-
-abbrev pub justRecords : List Recent → Beside
-justRecords records = record { words = []; reasons = []; records = records }
-
--- all memory lent to a call
-pub record Whole : Type 0 where
-  pub state : List ℕ
-  pub other : Beside
-
-abbrev pub whole : (state : List ℕ) → (other : Beside) → Whole
-whole state other = record { state = state; other = other }
-
--- a call, with what is lent to it beside the state memory
-pub data Asked : Type 0 where
-  offer : Offerer → (flow : ℕ) → Asked
-  offerSet : (flows : List ℕ) → Asked
-  step : (delivery : List ℕ) → Asked
-  stepReasons : (delivery reasons : List ℕ) → Asked
-  steps : (delivery : List ℕ) → (cycles : ℕ) → Asked
-  write : (notes target : List ℕ) → Asked
-  recent : (deliveries : List ℕ) → (last : ℕ) → (records : List Recent) → Asked
-  reset : (file : List ℕ) → Asked
-
--- what a call does to the words lent to it, by the definitions to which the contracts of the code set answer and memory equal
-abbrev pub onWords : Asked → (words : List ℕ) → Outcome Answer Whole
-onWords (offer who flow) words = outcome ((offerOn who words flow) .answer) (whole ((offerOn who words flow) .memory) (justWords []))
-onWords (offerSet flows) words = outcome ((offerSetOn words flows) .answer) (whole ((offerSetOn words flows) .memory) (justWords []))
-onWords (step delivery) words =
-    outcome ((stepOn words delivery) .answer) (whole ((stepOn words delivery) .memory .state) (justWords ((stepOn words delivery) .memory .other)))
-onWords (stepReasons delivery reasons) words =
-    let o : Outcome Answer Telling = stepReasonsOn words delivery reasons in
-    outcome (o .answer) (whole (o .memory .step .state) (withReasons (o .memory .step .other) (o .memory .reasons)))
-onWords (steps delivery cycles) words =
-    let o : Outcome Answer Lent = stepsOn words delivery cycles in
-    outcome (o .answer) (whole (o .memory .state) (justWords (o .memory .other)))
-onWords (write notes target) words = outcome ((writeOn words notes target) .answer) (whole words (justWords ((writeOn words notes target) .memory)))
-onWords (recent deliveries last records) words =
-    outcome ((feedOn words deliveries last records) .answer) (whole words (justRecords ((feedOn words deliveries last records) .memory)))
-onWords (reset file) words = outcome ((resetOn file words) .answer) (whole ((resetOn file words) .memory) (justWords []))
-
--- an item of a list: a call, and how many words of the state memory it is lent
-pub record Item : Type 0 where
-  pub asked : Asked
-  pub lentWords : ℕ
-
--- it is lent the first words of the state memory, or all where there are no more; the others stay
-abbrev pub onMemory : (memory : List ℕ) → Item → Outcome Answer Whole
-onMemory memory i =
-    let o : Outcome Answer Whole = onWords (i .asked) (take (i .lentWords) memory) in
-    outcome (o .answer) (whole (o .memory .state ++ drop (i .lentWords) memory) (o .memory .other))
-
--- the state memory after a list: each call is lent it as the last one left it
-abbrev pub memoryAfter : (memory : List ℕ) → List Item → List ℕ
-memoryAfter memory [] = memory
-memoryAfter memory (i ∷ is) = memoryAfter ((onMemory memory i) .memory .state) is
+use Rattle.run.specs.Calls.{Beside, withReasons, justWords, justRecords, Whole, Item, onMemory, memoryAfter}
+use Rattle.run.specs.Calls.{Asked, offer, offerSet, step, stepReasons, steps, write, recent, reset}
 
 -- a call's role in a list: it is fed to the book as this call; or it comes between, unfed, and plan and book tell its outcome; or it is
 -- a reset. The other memory is what is lent to it beside the state memory
