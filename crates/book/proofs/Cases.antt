@@ -78,6 +78,7 @@ AllHold [] = Unit
 AllHold (c ∷ cs) = Says c × AllHold cs
 
 each : (cs : List Case) → AllHold cs → (c : Case) → Mem c cs → Says c
+each [] all c m = elim m [ ]
 each (d ∷ cs) all c (here e) = subst Says (sym e) all.0
 each (d ∷ cs) all c (there m) = each cs all.1 c m
 

@@ -1,4 +1,6 @@
 // Bounds from a plan file: the window of a flow and of its bursts, and its flight bound. Rests on plan, turning, window and flight.
+#![tactic(auto)]
+
 ghost use Rattle.std.specs.Prelude.{◌≡◌, ◌+◌, ◌*◌, ◌≤◌, length};
 ghost use Rattle.flow.specs.Offsets.{port_of};
 ghost use Rattle.flow.specs.Plan.{most_burst, flow_at};

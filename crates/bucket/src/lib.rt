@@ -1,10 +1,12 @@
 // The regulator of a flow: a token bucket by value. Rests on laws.
+#![tactic(auto)]
+
 ghost use Rattle.std.specs.Prelude.{◌≡◌, ◌+◌, ◌<◌, ◌≤◌};
 ghost use Rattle.bucket.specs.Regulator.{after_spend, after_count, bucket_fits};
 ghost use Rattle.bucket.specs.Passed.{after_cycles};
 ghost use Rattle.bucket.specs.Curve.{curve};
 
-#[derive(Drop)]
+#[derive(Clone, Copy)]
 pub struct Bucket {
     pub tokens: u32,
     pub count: u32,

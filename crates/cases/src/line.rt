@@ -8,7 +8,7 @@ pub const NONE: u64 = 0x100000000000000;
 const FAULTY: u64 = 100;
 
 // Where a line ends, and the value of one of its fields.
-#[derive(Drop)]
+#[derive(Clone, Copy)]
 pub struct Field {
     pub end: usize,
     pub value: u64,

@@ -1,4 +1,6 @@
 // 01's cases and the limits of later requests, as a script on standard input: each line is written again, with its answer behind it.
+#![tactic(auto)]
+
 mod line;
 
 ghost use Rattle.std.specs.Prelude.{◌≤◌, ◌<◌, length};
@@ -259,7 +261,7 @@ fn checked(first: u8, word: u64, a: u64, b: u64, c: u64) -> u64 {
 }
 
 // A line as it was read: its end, its word and its numbers.
-#[derive(Drop)]
+#[derive(Clone, Copy)]
 struct Asked {
     end: usize,
     word: u64,

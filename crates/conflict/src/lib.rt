@@ -1,4 +1,6 @@
 // How two flows conflict at the source of one of them. Rests on flow and turning.
+#![tactic(auto)]
+
 ghost use Rattle.std.specs.Prelude.{◌≡◌, ◌^◌, ◌<◌, ◌≤◌};
 ghost use Rattle.laws.specs.Bits.{is_set};
 ghost use Rattle.flow.specs.Offsets.{port_of};
@@ -9,7 +11,7 @@ ghost use Rattle.conflict.specs.Inner.{Pair};
 use flow::{Flow, Port};
 
 // How a flow meets another at its source: not at all, or in conflict with the spread J.
-#[derive(Drop)]
+#[derive(Clone, Copy)]
 pub enum Conflict {
     Free,
     Spread(u32),

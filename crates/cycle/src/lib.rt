@@ -1,4 +1,6 @@
 // What a router does with its packets, and the state read as values. Rests on state.
+#![tactic(auto)]
+
 ghost use Rattle.std.specs.Prelude.{◌≡◌, ◌<◌};
 ghost use Rattle.flow.specs.Plan.{most_size, flow_at};
 ghost use Rattle.router.specs.Rule.{turns_south};

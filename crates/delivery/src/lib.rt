@@ -1,4 +1,6 @@
 // A step's deliveries as five-word groups, and which of them are strange to a plan. Rests on cycle.
+#![tactic(auto)]
+
 ghost use Rattle.std.specs.Prelude.{◌≡◌, ◌≤◌};
 ghost use Rattle.laws.specs.Count.{any};
 ghost use Rattle.flow.specs.Plan.{most_size};
@@ -11,7 +13,7 @@ ghost use Rattle.delivery.specs.Inner.{HasGroup, StateGroup, trip_of};
 use flow::Flow;
 
 // The entry cycle, exit cycle and deflections of a delivery.
-#[derive(Drop)]
+#[derive(Clone, Copy)]
 pub struct Trip {
     pub entry: u32,
     pub exit: u32,

@@ -1,4 +1,6 @@
 // Who enters, and the flows' next tallies: two walks over the flows. Rests on cycle.
+#![tactic(auto)]
+
 ghost use Rattle.std.specs.Prelude.{◌≡◌, true, ◌+◌, ◌<◌, ◌≤◌, length, get_or};
 ghost use Rattle.laws.specs.Grid.{cell_index};
 ghost use Rattle.laws.specs.Turns.{turns};

@@ -1,4 +1,6 @@
 // Feeding a step's deliveries to the records of recent flights. Rests on delivery, recent and valid.
+#![tactic(auto)]
+
 ghost use Rattle.std.specs.Prelude.{◌≡◌, length};
 ghost use Rattle.plan.specs.Refusals.{answer_by};
 ghost use Rattle.state.specs.Facts.{StateFacts};

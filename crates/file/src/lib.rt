@@ -1,4 +1,6 @@
 // The numbers of a plan file, read where they stand: trailer, tag and records. Rests on flow.
+#![tactic(auto)]
+
 ghost use Rattle.std.specs.Prelude.{◌≡◌, ◌+◌, ◌<◌, ◌≤◌, length};
 ghost use Rattle.file.specs.Bytes.{third_byte, little_endian2};
 ghost use Rattle.file.specs.Layout.{trailer_of, period_at, flow_from, tagged, trailer_size, record_size};
@@ -15,7 +17,7 @@ pub const TRAILER_SIZE: usize = 12;
 pub const THIRD_BYTE: u32 = 65536;
 
 // A plan file's trailer before its tag.
-#[derive(Drop)]
+#[derive(Clone, Copy)]
 pub struct Trailer {
     pub start: u32,
     pub count: u32,

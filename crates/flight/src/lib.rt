@@ -1,4 +1,6 @@
 // The flight bound of a flow. Rests on flow and turning.
+#![tactic(auto)]
+
 ghost use Rattle.std.specs.Prelude.{◌≡◌, ◌^◌, ◌≤◌, ◌<◌};
 ghost use Rattle.laws.specs.Bits.{is_set};
 ghost use Rattle.flow.specs.Offsets.{ΔY};

@@ -1,4 +1,6 @@
 // A flow's plan numbers, its offsets on the torus and its port; who offers packets, and the limits. Rests on laws and torus.
+#![tactic(auto)]
+
 ghost use Rattle.std.specs.Prelude.{◌≡◌, ◌≤◌, ◌<◌};
 ghost use Rattle.flow.specs.Offsets.{ΔX, ΔY, port_of, same_client};
 ghost use Rattle.flow.specs.Plan.{most_size, on_torus};
@@ -14,7 +16,7 @@ pub const MOST_WAITING: u32 = 65535;
 pub const MOST_TRIAL: u32 = 255;
 
 // The six plan numbers of a flow, in record order: source, destination, period P and burst σ.
-#[derive(Drop)]
+#[derive(Clone, Copy)]
 pub struct Flow {
     pub xs: u32,
     pub ys: u32,
@@ -25,21 +27,21 @@ pub struct Flow {
 }
 
 // The router output by which a flow's packets enter.
-#[derive(Drop)]
+#[derive(Clone, Copy)]
 pub enum Port {
     East,
     South,
 }
 
 // Who offers a packet: the sonar, or the trial generator.
-#[derive(Drop)]
+#[derive(Clone, Copy)]
 pub enum Offerer {
     Sonar,
     Generator,
 }
 
 // An offer's limit: with so many packets of the flow waiting, it is refused with this number.
-#[derive(Drop)]
+#[derive(Clone, Copy)]
 pub struct Limit {
     pub waiting: u32,
     pub number: u32,

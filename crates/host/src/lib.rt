@@ -1,4 +1,6 @@
 // The C interface, declared in include/hrt.h: thin, over the calls of plan, bounds, reset, writing, offer, offers, step, steps, telling and feed.
+#![tactic(auto)]
+
 ghost use Rattle.std.specs.Prelude.{◌≡◌};
 ghost use Rattle.bounds.specs.Bounds.{window_answer, burst_answer, flight_bound_answer};
 ghost use Rattle.bounds.specs.Inner.{NumberMost};

@@ -62,6 +62,7 @@ module _ {A : Type 0} where
       pick later (inr miss) = let n = later (rw miss at e) in (n.0, there n.1, n.2)
 
   pub any_mem : (t : A → Bool) {x : A} (l : List A) → Mem x l → t x ≡ true → any t l ≡ true
+  any_mem t [] x h = elim x [ ]
   any_mem t (z ∷ l) (here e) h = rw (← e, h)
   any_mem t (z ∷ l) (there m) h = rw (any_mem t l m h) (or_true (t z))
 
@@ -139,6 +140,7 @@ module _ {A : Type 0} where
   -- and one member passes the other only
   pub count_more : (t u : A → Bool) (l : List A) → ((x : A) → Mem x l → t x ≡ true → u x ≡ true)
       → (z : A) → Mem z l → t z ≡ false → u z ≡ true → suc (count t l) ≤ count u l
+  count_more t u [] h z m f g = elim m [ ]
   count_more t u (x ∷ l) h z (here e) f g =
       rw (← e, f, g) (omega (arith, count_mono t u l (λ y m. h y (there m))))
   count_more t u (x ∷ l) h z (there m) f g =

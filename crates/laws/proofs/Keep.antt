@@ -51,6 +51,7 @@ module _ {A : Type 0} where
 
   -- the only member that passes
   pub keep_one : (t : A → Bool) (l : List A) → count t l ≤ 1 → (x : A) → Mem x l → t x ≡ true → keep t l ≡ x ∷ []
+  keep_one t [] h x m e = elim m [ ]
   keep_one t (z ∷ l) h x (here s) e =
       rw (← s, e, keep_none t l (λ y m. elim (test (t y)) [ inl k ↦ absurd (omega (arith, mem_count t l m k, rw (← s, e) at h)) | inr k ↦ k ]))
   keep_one t (z ∷ l) h x (there m) e =

@@ -1,1 +1,2 @@
 // Lemmas on tests, sums, counts and loops that know nothing of the project: no code, only specs/ and proofs/.
+#![tactic(auto)]

@@ -1,4 +1,6 @@
 // Cycles in which nothing moves and nobody enters, in one go. Rests on cycle.
+#![tactic(auto)]
+
 ghost use Rattle.std.specs.Prelude.{◌≡◌, true, ◌+◌, ◌<◌, ◌≤◌};
 ghost use Rattle.laws.specs.Turns.{turns};
 ghost use Rattle.flow.specs.Plan.{flow_at};

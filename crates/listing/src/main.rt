@@ -1,4 +1,6 @@
 // A plan file on standard input, its table of bounds on standard output.
+#![tactic(auto)]
+
 use libc::{STDIN_FILENO, STDOUT_FILENO};
 
 fn main() {

@@ -1,4 +1,6 @@
 // An offer of one packet to a flow, by the sonar or the trial generator. Rests on valid and cycle.
+#![tactic(auto)]
+
 ghost use Rattle.std.specs.Prelude.{◌≡◌};
 ghost use Rattle.flow.specs.Limits.{offer_number};
 ghost use Rattle.state.specs.Words.{state_words};

@@ -1,4 +1,6 @@
 // An offer that names a set of flows: all of them or none. Rests on offer and valid.
+#![tactic(auto)]
+
 ghost use Rattle.std.specs.Prelude.{◌≡◌, ◌≤◌};
 ghost use Rattle.state.specs.Words.{state_words};
 ghost use Rattle.state.specs.Read.{state_of};

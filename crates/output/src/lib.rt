@@ -1,4 +1,6 @@
 // Where what a router sends goes: its neighbours' next registers, or the delivery memory. Rests on cycle.
+#![tactic(auto)]
+
 ghost use Rattle.std.specs.Prelude.{◌≡◌, cond, true, false, ◌+◌, ◌*◌, ◌<◌, ◌≤◌, length};
 ghost use Rattle.std.proofs.lemmas.List.Edits.{sets};
 ghost use Rattle.flow.specs.declared.Port.TheVariants.{East, South};
@@ -14,7 +16,7 @@ ghost use Rattle.output.specs.Grid.{OnGrid, registers_of, push, ExitRoom};
 use state::Register;
 
 // The grid of a state's routers: columns, rows, and the flows in front of the registers.
-#[derive(Drop)]
+#[derive(Clone, Copy)]
 pub struct Grid {
     pub sx: u32,
     pub sy: u32,

@@ -1,4 +1,6 @@
 // Where a packet can be: 01's conditions on a register's packet, decided. Rests on torus and flow.
+#![tactic(auto)]
+
 ghost use Rattle.std.specs.Prelude.{◌≡◌, ◌≤◌, ◌<◌};
 ghost use Rattle.flow.specs.Offsets.{ΔX};
 ghost use Rattle.flow.specs.Plan.{most_size};
@@ -10,7 +12,7 @@ ghost use Rattle.place.specs.Input.{place_of};
 use flow::Flow;
 
 // The input of a router that a link register feeds.
-#[derive(Drop)]
+#[derive(Clone, Copy)]
 pub enum Input {
     West,
     North,

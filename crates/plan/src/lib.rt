@@ -1,4 +1,6 @@
 // Plan files: the reader, its refusals 1 to 7, and the notes. Rests on file.
+#![tactic(auto)]
+
 ghost use Rattle.std.specs.Prelude.{◌≡◌, ◌+◌, ◌*◌, ◌<◌, ◌≤◌, length};
 ghost use Rattle.flow.specs.Plan.{most_flows};
 ghost use Rattle.file.specs.Layout.{trailer_size, record_size};
@@ -14,7 +16,7 @@ pub const MOST_FLOWS: u32 = 256;
 pub const MOST_SIZE: u32 = 16;
 
 // What a call answers: a value, or the number of its refusal with the place.
-#[derive(Drop)]
+#[derive(Clone, Copy)]
 pub enum Answer {
     Done(u32),
     Refused { number: u32, place: u32 },

@@ -1,4 +1,6 @@
 // The record of a flow's recent flights, by value. Rests on laws.
+#![tactic(auto)]
+
 ghost use Rattle.std.specs.Prelude.{◌≡◌, ◌+◌, ◌-◌, ◌≤◌, max, length, take};
 ghost use Rattle.recent.specs.Recent.{most_kept, largest, laid_out, held_by, one_more, with_delivery};
 
@@ -8,7 +10,7 @@ pub const MOST_KEPT: usize = 16;
 // The last deliveries of a flow: how many are held, the longest flight, the most deflections, and each one's flight and deflections,
 // oldest first, zeros behind.
 #[repr(C)]
-#[derive(Drop)]
+#[derive(Clone, Copy)]
 pub struct Recent {
     pub held: u32,
     pub longest: u32,

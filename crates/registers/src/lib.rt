@@ -1,4 +1,6 @@
 // When the registers among a state's words are those of a state; `dxs` has ΔX of every flow. Rests on place and state.
+#![tactic(auto)]
+
 ghost use Rattle.std.specs.Prelude.{◌&&◌, ◌≡◌, ◌+◌, ◌≤◌, ◌<◌, leb, eqb, length, get_or};
 ghost use Rattle.laws.specs.Bounded.{all_below};
 ghost use Rattle.flow.specs.Offsets.{ΔX};

@@ -1,10 +1,12 @@
 // The links between routers, the rule by which a router sends its packets, and why a flow didn't enter. Rests on torus, flow and
 // place.
+#![tactic(auto)]
+
 ghost use Rattle.std.specs.Prelude.{◌≡◌};
 ghost use Rattle.router.specs.Reasons.{number_of};
 
 // Whether a flow entered in a step, or why it didn't.
-#[derive(Drop)]
+#[derive(Clone, Copy)]
 pub enum Reason {
     Entered,
     NothingWaiting,

@@ -1,4 +1,6 @@
 // One walk over the routers: next registers, deliveries and their count. Rests on cycle and entry.
+#![tactic(auto)]
+
 ghost use Rattle.std.specs.Prelude.{◌≡◌, false, ◌+◌, ◌*◌, ◌<◌, ◌≤◌, length};
 ghost use Rattle.std.proofs.lemmas.List.Edits.{sets};
 ghost use Rattle.flow.specs.Limits.{last_clock, exit_size};
@@ -19,7 +21,7 @@ use output::Grid;
 use state::{Cell, Register};
 
 // What is sent by the two outputs of a router.
-#[derive(Drop)]
+#[derive(Clone, Copy)]
 struct Sent {
     east: Register,
     south: Register,

@@ -1,4 +1,6 @@
 // State memory: its words, read and written by value. Rests on flow and bucket.
+#![tactic(auto)]
+
 ghost use Rattle.std.specs.Prelude.{◌≡◌, ◌&&◌, [], ◌∷◌, ◌+◌, ◌≤◌, ◌<◌, eqb, length, get_or, set};
 ghost use Rattle.std.proofs.lemmas.List.Edits.{sets};
 ghost use Rattle.laws.specs.Grid.{cell_index};
@@ -43,7 +45,7 @@ pub const MOST_ROUTERS: usize = 256;
 pub const LAST_CLOCK: u32 = 4294967295;
 
 // A link register read from the words: empty, or one packet.
-#[derive(Drop)]
+#[derive(Clone, Copy)]
 pub enum Register {
     Empty,
     Packet {
@@ -55,14 +57,14 @@ pub enum Register {
 }
 
 // The link registers of a router.
-#[derive(Drop)]
+#[derive(Clone, Copy)]
 pub struct Cell {
     pub west: Register,
     pub north: Register,
 }
 
 // A flow's bucket, entered and waiting.
-#[derive(Drop)]
+#[derive(Clone, Copy)]
 pub struct Tally {
     pub bucket: Bucket,
     pub entered: u32,

@@ -1,4 +1,6 @@
 // Many steps in one call, checked once, at their start. Rests on leap and step.
+#![tactic(auto)]
+
 ghost use Rattle.std.specs.Prelude.{◌≡◌, ◌++◌, ◌*◌, ◌≤◌, length, take, drop};
 ghost use Rattle.flow.specs.Limits.{exit_size, most_delivered, used_room};
 ghost use Rattle.router.specs.Delivery.{words_of};
@@ -65,7 +67,7 @@ fn step_behind(
 }
 
 // The exits so far, and how many cycles a turn took.
-#[derive(Drop)]
+#[derive(Clone, Copy)]
 pub struct Turn {
     pub exits: u32,
     pub cycles: u32,

@@ -1,4 +1,6 @@
 // The table of a plan file as text in lent memory. Rests on bounds.
+#![tactic(auto)]
+
 ghost use Rattle.std.specs.Prelude.{◌∷◌, [], ◌+◌, ◌*◌, ◌<◌, ◌≤◌, length};
 ghost use Rattle.laws.specs.Count.{join_below};
 ghost use Rattle.laws.specs.Written.{Wrote};

@@ -1,4 +1,6 @@
 // A step that also tells why each flow didn't enter. Rests on reasons and step.
+#![tactic(auto)]
+
 ghost use Rattle.std.specs.Prelude.{◌≡◌, ◌≤◌, length};
 ghost use Rattle.router.specs.Delivery.{words_of};
 ghost use Rattle.state.specs.Words.{state_words};

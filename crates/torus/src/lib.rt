@@ -1,4 +1,6 @@
 // The torus: offsets and neighbours along one row or column. Rests on laws.
+#![tactic(auto)]
+
 ghost use Rattle.std.specs.Prelude.{◌≡◌, ◌<◌, leb};
 ghost use Rattle.torus.specs.Axis.{offset, next, lap};
 

@@ -1,4 +1,6 @@
 // Turning rows as a word of bits for each column, row y in bit y. Rests on flow.
+#![tactic(auto)]
+
 ghost use Rattle.std.specs.Prelude.{◌≡◌, ◌^◌, ◌<◌, ◌≤◌, length};
 ghost use Rattle.laws.specs.Bits.{is_set};
 ghost use Rattle.flow.specs.Plan.{most_size};

@@ -1,4 +1,6 @@
 // When words form a state, and what a call on a state refuses first: 8 and 9. Rests on registers.
+#![tactic(auto)]
+
 ghost use Rattle.std.specs.Prelude.{true, ◌≡◌, ◌≤◌, ◌<◌, length};
 ghost use Rattle.laws.specs.Bounded.{all_below};
 ghost use Rattle.flow.specs.Offsets.{ΔX};

@@ -1,4 +1,6 @@
 // A flow's rivals, the search for a window among them, and the lone wait. Rests on conflict and bucket.
+#![tactic(auto)]
+
 ghost use Rattle.std.specs.Prelude.{◌≡◌, ◌+◌, ◌*◌, ◌/◌, ◌<◌, ◌≤◌, leb, length};
 ghost use Rattle.window.specs.Window.{most_window, least_from, least_window, lone_wait};
 ghost use Rattle.flow.specs.Plan.{most_period, most_burst, most_flows};
@@ -19,14 +21,14 @@ pub const MOST_RIVAL_WORDS: usize = 768;
 const WHOLE_LINK: u32 = 2147483648;
 
 // The rivals kept so far: how many, and the sum of their rates, in those parts a cycle.
-#[derive(Drop)]
+#[derive(Clone, Copy)]
 pub struct Kept {
     pub count: usize,
     pub rates: u64,
 }
 
 // The window of a flow or of a burst, or that there is none.
-#[derive(Drop)]
+#[derive(Clone, Copy)]
 pub enum Window {
     At(u32),
     Nothing,

@@ -1,4 +1,6 @@
 // Writing: a plan file from a state and lent notes. Rests on plan, state and valid.
+#![tactic(auto)]
+
 ghost use Rattle.std.specs.Prelude.{[], ◌∷◌, ◌++◌, ◌≡◌, ◌+◌, ◌*◌, ◌%◌, ◌≤◌, length};
 ghost use Rattle.std.proofs.lemmas.List.Edits.{sets};
 ghost use Rattle.flow.specs.Plan.{most_size};
