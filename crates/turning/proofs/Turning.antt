@@ -11,7 +11,7 @@ use native.Mathlib.Nat.{mod-lt, mod-eq_of_lt, add-mod_right}
 use native.Mathlib.Omega.{arith}
 use borrow.Author.Tests.{eq-eqb, ne_eqb}
 use lib.ListN.{length, get_or}
-use Rattle.laws.specs.Count.{one, any}
+use Rattle.laws.specs.Count.{one}
 use Rattle.laws.proofs.Cases.{test}
 use Rattle.laws.proofs.Count.{one_most, any_mem}
 use Rattle.laws.proofs.Sum.{sum_more, sum_most, sum_same}

@@ -22,7 +22,7 @@ use Rattle.conflict.specs.Conflict.{rows_to, columns_to, laps, conflict_east, co
 use Rattle.window.specs.declared.Window.TheVariants.{At}
 use Rattle.window.specs.Window.{share, share_of, interference, least_from, most_window, window_of}
 use Rattle.window.specs.Before.{east_before, south_before, conflict_before, share_before, interference_before, window_before, NoWindowGrows}
-use Rattle.window.proofs.Least.{Least, at_least}
+use Rattle.window.proofs.Least.{at_least}
 
 -- no conflict where there was none, and no larger spread
 data Narrower : Conflict → Conflict → Type 0 where
