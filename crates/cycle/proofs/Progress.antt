@@ -1,7 +1,6 @@
 -- What many steps keep on their way: a state, and exits that lie in the delivery memory. No check lies between them, since a step keeps a
 -- state. Rests on Keeps, Deliveries and specs/Progress.
-use mathlib.Core.List.{List}
-use mathlib.Core.Path.{◌≡◌, refl, ap, ◌∙◌}
+use mathlib.Core.Path.{◌≡◌, refl, ap}
 use Prim.Native.Nat.{ℕ, zero, suc, ◌-◌, ◌*◌, ◌≤◌}
 use native.Mathlib.Omega.{arith}
 use lib.ListN.{length, length-append}

@@ -1,6 +1,6 @@
 -- The call of many steps, by the state and the deliveries that they reach: steps on words are steps on the state that the words hold. Rests
 -- on Progress and the laws of a state's words.
-use mathlib.Core.List.{List, [], ◌++◌, append_assoc, append-nil}
+use mathlib.Core.List.{List}
 use mathlib.Core.Path.{◌≡◌, refl, sym, ap, ◌∙◌}
 use Prim.Native.Nat.{ℕ, zero, suc, ◌-◌, ◌*◌, ◌≤◌}
 use native.Mathlib.Omega.{arith}
@@ -10,8 +10,8 @@ use Rattle.laws.specs.Turns.{turns}
 use Rattle.flow.specs.Limits.{exit_size, most_delivered, used_room}
 use Rattle.flow.proofs.Limits.{used_length}
 use Rattle.plan.specs.declared.Answer.{Answer}
-use Rattle.plan.specs.declared.Answer.TheVariants.{Done, Refused}
-use Rattle.router.specs.Delivery.{Delivery, words_of}
+use Rattle.plan.specs.declared.Answer.TheVariants.{Done}
+use Rattle.router.specs.Delivery.{words_of}
 use Rattle.router.proofs.Delivery.{words_append, words_length}
 use Rattle.state.specs.State.{State}
 use Rattle.state.specs.Words.{state_words}
@@ -21,10 +21,10 @@ use Rattle.state.specs.Outcome.{Outcome, outcome, Lent, lent, refused, unless, u
 use Rattle.state.proofs.Over.{over_behind, over_front, unless_passes, unless_refused_done}
 use Rattle.cycle.specs.Step.{step_state, deliveries, step_on}
 use Rattle.cycle.specs.Steps.{joined, step_more, steps_on}
-use Rattle.cycle.specs.Progress.{Progress, begun, next_number, advanced, advance, progress, Reached}
+use Rattle.cycle.specs.Progress.{Progress, next_number, advanced, advance, progress, Reached}
 use Rattle.cycle.proofs.Offer.{words_sound, words_again, over_forms, over_read, over_again}
 use Rattle.cycle.proofs.Keeps.{step_done}
-use Rattle.cycle.proofs.Progress.{ProgressOk, begun_ok, progress_ok}
+use Rattle.cycle.proofs.Progress.{ProgressOk, progress_ok}
 
 module _ (w d : List ℕ) where
   -- the memories that hold how far the steps have come

@@ -1,47 +1,38 @@
 -- The law of the cycle: k cycles in which nothing moves and nobody enters are the leap of k, and deliver nothing. Rests on the laws of the
 -- bucket, of who enters and of the links.
-use mathlib.Core.Bool.{Bool, true, false, cond, ◌&&◌, false≢true}
-use mathlib.Core.List.{List, [], ◌∷◌, ◌++◌, append-nil}
-use mathlib.Core.Logic.{◌⊎◌, inl, inr}
-use mathlib.Core.Option.{Option, none, some}
-use mathlib.Core.Path.{◌≡◌, refl, sym, ap, subst, ◌∙◌}
-use Prim.Native.Nat.{ℕ, zero, suc, ◌+◌, ◌-◌, ◌*◌, ◌≤◌, ◌<◌}
+use mathlib.Core.Bool.{true, false, false≢true}
+use mathlib.Core.List.{List, []}
+use mathlib.Core.Logic.{inl, inr}
+use mathlib.Core.Option.{Option, none}
+use mathlib.Core.Path.{◌≡◌, refl, sym, ap, ◌∙◌}
+use Prim.Native.Nat.{ℕ, zero, suc, ◌+◌, ◌≤◌, ◌<◌}
 use native.Mathlib.Nat.{add-zero, sub-zero, add_assoc}
 use native.Mathlib.Numerals.{add-one}
 use native.Mathlib.Omega.{arith}
-use borrow.Author.Tests.{le-ltb, lt-ltb}
+use borrow.Author.Tests.{le-ltb}
 use lib.Dec.{ltb}
 use lib.ListN.{length}
 use Rattle.laws.specs.Bounded.{tabulate}
-use Rattle.laws.specs.Count.{one, join_below}
+use Rattle.laws.specs.Count.{join_below}
 use Rattle.laws.specs.Grid.{grid}
 use Rattle.laws.specs.Turns.{turns}
 use Rattle.laws.proofs.Cases.{never, and_true}
-use Rattle.laws.proofs.Bounded.{get_d_tabulate, length_tabulate, is_tabulate}
-use Rattle.laws.proofs.Grid.{get_d_grid, is_grid, grid_same, tabulate_same}
+use Rattle.laws.proofs.Bounded.{get_d_tabulate, is_tabulate}
+use Rattle.laws.proofs.Grid.{is_grid, tabulate_same}
 use Rattle.flow.specs.declared.Flow.{Flow}
 use Rattle.flow.specs.Plan.{Plan, flow_at}
-use Rattle.flow.specs.Ranges.{PlanOk}
-use Rattle.bucket.specs.declared.Bucket.{Bucket}
 use Rattle.bucket.specs.Regulator.{after_count, after_cycle}
-use Rattle.bucket.specs.Passed.{after_cycles}
 use Rattle.bucket.proofs.Passed.{cycles_more, cycles_none, none_yet}
 use Rattle.place.specs.Place.{Place, W, N, column_of, row_of}
-use Rattle.router.specs.Links.{Output, feeder}
 use Rattle.router.specs.Rule.{Seen, Way, via, leave, taken_by, takes, ready, entrant, is_flow}
 use Rattle.router.specs.Rule as Rule
-use Rattle.router.specs.Delivery.{Delivery}
 use Rattle.router.proofs.Links.{feeder_on}
-use Rattle.router.proofs.Entrant.{Found, no_entrant, has_entrant, found, entering_ready, ready_parts}
-use Rattle.state.specs.declared.Register.{Register}
-use Rattle.state.specs.declared.Register.TheVariants.{Empty, Packet}
+use Rattle.router.proofs.Entrant.{Found, no_entrant, has_entrant, found, ready_parts}
+use Rattle.state.specs.declared.Register.TheVariants.{Empty}
 use Rattle.state.specs.declared.Tally.{Tally}
-use Rattle.state.specs.declared.Cell.{Cell}
-use Rattle.state.specs.State.{State, tally_at, cell_at, fresh_tally, empty_cell}
+use Rattle.state.specs.State.{State, tally_at, fresh_tally, empty_cell}
 use Rattle.state.specs.Forms.{tally_fits}
-use Rattle.state.proofs.Read.{Sized}
-use Rattle.state.proofs.Formed.{StateOk}
-use Rattle.cycle.specs.Seen.{shown, seen, view, enters}
+use Rattle.cycle.specs.Seen.{view, enters}
 use Rattle.cycle.specs.Step.{sends_by, sent_by, carried, next_register, next_cell, next_tally, step_state, leaving, delivered, deliveries}
 use Rattle.cycle.proofs.Offer.{Sound}
 use Rattle.leap.specs.Leap.{passed_at, leap_state, Vacant, StaysOut, AllStayOut, Idle}

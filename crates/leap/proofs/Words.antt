@@ -12,7 +12,7 @@ use Rattle.laws.proofs.Bounded.{get_d_tabulate}
 use Rattle.laws.proofs.Grid.{cell_below}
 use Rattle.flow.specs.Limits.{last_clock}
 use Rattle.state.specs.Layout.{clock_place, register_size, flow_place, plan_size}
-use Rattle.state.specs.State.{State, tally_at, cell_at, fresh_tally}
+use Rattle.state.specs.State.{tally_at, cell_at, fresh_tally}
 use Rattle.state.specs.Words.{state_words}
 use Rattle.state.specs.Read.{sx_in, sy_in, count_in, clock_in, router_in, plan_in, state_of}
 use Rattle.state.specs.Outcome.{over}
