@@ -1,0 +1,12 @@
+-- `put_window`: by the cases of the window.
+use native.Mathlib.Omega.{arith}
+use Rattle.table.proofs.put_window.Goals as goal
+
+pub returns-in-At : goal.returns-in-At
+returns-in-At c =
+    record { wrote = rw c.in-At.is c.put_field.ensures.wrote; upper_bound = c.put_field.ensures.upper_bound }
+
+pub returns-in-Nothing : goal.returns-in-Nothing
+returns-in-Nothing c =
+    let dash = c.put_none.ensures in
+    record { wrote = rw c.in-Nothing.is dash; upper_bound = omega (arith, dash.place) }
