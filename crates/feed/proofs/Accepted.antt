@@ -63,22 +63,6 @@ both_pass : (n m : ℕ) → first_number n m ≡ 0 → (n ≡ 0) × (m ≡ 0)
 both_pass zero m e = (refl, e)
 both_pass (suc n) m e = absurd (omega arith)
 
--- a refusal's number comes first, or it is the later one's
-pub first_refused_lem : (n m : ℕ) → (n ≡ 0 → ⊥) → n ≡ first_number n m
-first_refused_lem zero m h = absurd (h refl)
-first_refused_lem (suc n) m h = refl
-
-pub first_passes : (n m : ℕ) → n ≡ 0 → m ≡ first_number n m
-first_passes n m e = rw e
-
--- no group is fed where the call is refused
-pub none_fed : (n : ℕ) (w : List ℕ) → (n ≡ 0 → ⊥) → 0 ≡ groups_fed n w
-none_fed zero w h = absurd (h refl)
-none_fed (suc n) w h = refl
-
-pub all_fed : (n : ℕ) (w : List ℕ) → n ≡ 0 → length w / exit_size ≡ groups_fed n w
-all_fed n w e = rw e
-
 module _ (words deliveries : List ℕ) (last : ℕ) where
   module _ (count : ℕ) (accepts : call_number words deliveries count last ≡ 0) where
     formed : StateFacts words
@@ -102,22 +86,31 @@ module _ (words deliveries : List ℕ) (last : ℕ) where
           omega (arith, real.flow_below, goes.enough),
         )
 
+  can_keep : (count number : ℕ) → call_number words deliveries count last ≡ number → Feedable count deliveries (groups_fed number deliveries) last
+  can_keep count zero e = record { group = λ i h. (keepable count e i h).0; flow_below = λ i h. (keepable count e i h).1 }
+  can_keep count (suc n) e = record { group = λ i h. absurd (omega arith); flow_below = λ i h. absurd (omega arith) }
+
   -- what is fed can be kept
-  pub feedable : (count number : ℕ) → call_number words deliveries count last ≡ number → Feedable count deliveries (groups_fed number deliveries) last
-  feedable count zero e = record { group = λ i h. (keepable count e i h).0; flow_below = λ i h. (keepable count e i h).1 }
-  feedable count (suc n) e = record { group = λ i h. absurd (omega arith); flow_below = λ i h. absurd (omega arith) }
+  pub feedable : (count number n : ℕ) → number ≡ call_number words deliveries count last → n ≡ groups_fed number deliveries
+      → Feedable count deliveries n last
+  feedable count number n e fed = rw fed (can_keep count number (sym e))
 
   -- the call by its number
-  pub fed_by_number : (records : List Recent) → let number = call_number words deliveries (length records) last in
+  by_number : (records : List Recent) → let number = call_number words deliveries (length records) last in
       outcome (answer_by number 0) (fed_first deliveries last (groups_fed number deliveries) records) ≡ feed_on words deliveries last records
   unfolding feed_on unless groups_of fed_first turns
-  fed_by_number records = by (state_number words) (feed_number (plan_in words) (groups_of deliveries) (length records) last)
+  by_number records = by (state_number words) (feed_number (plan_in words) (groups_of deliveries) (length records) last)
     where
       by : (n m : ℕ) → outcome (answer_by (first_number n m) 0) (fed_first deliveries last (groups_fed (first_number n m) deliveries) records)
           ≡ unless n records (unless m records (outcome (Done 0) (fed_all last (groups_of deliveries) records)))
       by zero zero = rw (fed_groups deliveries last (length deliveries / exit_size) records)
       by zero (suc m) = refl
       by (suc n) m = refl
+
+  pub fed_by_number : (records fed : List Recent) (number n : ℕ) (a : Answer) → number ≡ call_number words deliveries (length records) last
+      → n ≡ groups_fed number deliveries → fed ≡ fed_first deliveries last n records → a ≡ answer_by number 0
+      → outcome a fed ≡ feed_on words deliveries last records
+  fed_by_number records fed number n a is groups all answer = rw (answer, all, groups, is) (by_number records)
 
 module _ (words deliveries : List ℕ) (last : ℕ) (records : List Recent) where
   -- a call that answers a number is on a state, and its deliveries are accepted

@@ -1,8 +1,9 @@
 -- Laws of feeding: one group more, and group by group. Rests on specs/Inner.
 use mathlib.Core.List.{List, [], ◌∷◌, ◌++◌}
 use mathlib.Core.Path.{◌≡◌, refl}
-use Prim.Native.Nat.{ℕ, zero, suc, ◌+◌}
-use lib.ListN.{length, get_or, set, length-set}
+use Prim.Native.Nat.{ℕ, zero, suc, ◌+◌, ◌<◌}
+use lib.ListN.{length, get_or, set}
+use Rattle.std.proofs.lemmas.List.{get_or_default}
 use Rattle.laws.specs.Bounded.{tabulate}
 use Rattle.laws.specs.Turns.{turns}
 use Rattle.laws.proofs.Turns.{turns_more}
@@ -13,18 +14,20 @@ use Rattle.delivery.specs.Groups.{group_at}
 use Rattle.feed.specs.Feed.{fed_one, fed_all}
 use Rattle.feed.specs.Inner.{kept_with, fed_first}
 
--- records stay as many
-pub fed_length : (w : List ℕ) (last n : ℕ) (records : List Recent) → length (turns n (λ i. fed_one last (group_at w i)) records) ≡ length records
-unfolding turns fed_one
-fed_length w last zero records = refl
-fed_length w last (suc n) records = simp (length-set, fed_length w last n records)
+-- none
+pub fed_none : (w : List ℕ) (last : ℕ) (records : List Recent) → records ≡ fed_first w last 0 records
+unfolding fed_first turns
+fed_none w last records = refl
 
--- one group more
-pub fed_next : (w : List ℕ) (last i : ℕ) (records : List Recent) → let fed = turns i (λ i. fed_one last (group_at w i)) records in
-    let flow = (group_at w i).flow in
-    set fed flow (kept_with w last i (get_or fed flow no_record)) ≡ turns (i + 1) (λ i. fed_one last (group_at w i)) records
-unfolding fed_one kept_with
-fed_next w last i records = turns_more i (λ i. fed_one last (group_at w i)) records _ refl
+-- one group more, at its flow's record, which is read at any default
+pub fed_next : (w : List ℕ) (last i : ℕ) (records fed : List Recent) (f : ℕ) (r d : Recent)
+    → fed ≡ fed_first w last i records → f ≡ (group_at w i).flow → f < length fed → r ≡ kept_with w last i (get_or fed f d)
+    → set fed f r ≡ fed_first w last (i + 1) records
+unfolding fed_first fed_one kept_with
+fed_next w last i records fed f r d e flow below is =
+    let all = turns_more i (λ i. fed_one last (group_at w i)) records fed e in
+    let same = get_or_default fed f d no_record below in
+    rw (is, same, flow) all
 
 -- one delivery after others
 fed_snoc : (last : ℕ) (ds : List Delivery) (d : Delivery) (records : List Recent)

@@ -15,6 +15,7 @@ use plan::Answer;
 use recent::Recent;
 
 // The refusal after the state's own, or 0.
+#[tactic(auto, using(state::proofs::View::view_count), unfolding(crate::specs::Feed::feed_number))]
 fn feed_number(state: &[u32], deliveries: &[u32], count: usize, last: u32) -> u32
     requires { StateFacts state.now }
     ensures { result ≡ feed_number (plan_in state.now) (groups_of deliveries.now) count last }
@@ -74,6 +75,7 @@ fn flow_of(deliveries: &[u32], i: usize) -> usize
 }
 
 // A record with group i.
+#[tactic(auto, unfolding(crate::specs::Inner::kept_with))]
 fn kept_with(r: Recent, deliveries: &[u32], i: usize, last: u32) -> Recent
     requires { Keepable deliveries.now i last }
     ensures { result ≡ kept_with deliveries.now last i r }
@@ -84,6 +86,7 @@ fn kept_with(r: Recent, deliveries: &[u32], i: usize, last: u32) -> Recent
 }
 
 // The first n groups, each at its flow's record.
+#[tactic(auto, using(crate::proofs::Fed::fed_none, crate::proofs::Fed::fed_next))]
 fn feed_groups(records: &mut [Recent], deliveries: &[u32], n: usize, last: u32)
     requires { Feedable (length records.old) deliveries.now n last }
     ensures { records.new ≡ fed_first deliveries.now last n records.old }
@@ -96,6 +99,7 @@ fn feed_groups(records: &mut [Recent], deliveries: &[u32], n: usize, last: u32)
 }
 
 // A step's deliveries, each at its flow's record of the last L: 0, or the refusal, before any record changes.
+#[tactic(auto, using(crate::proofs::Accepted::feedable, crate::proofs::Accepted::fed_by_number))]
 pub fn feed(state: &[u32], deliveries: &[u32], records: &mut [Recent], last: u32) -> Answer
     ensures { outcome result records.new ≡ feed_on state.now deliveries.now last records.old }
 {
