@@ -4,7 +4,7 @@ use mathlib.Core.List.{List, [], ◌∷◌}
 use Prim.Native.Nat.{ℕ, zero, suc, ◌<◌, ◌-◌, ◌*◌, ◌^◌}
 use lib.Dec.{T as Holds, ltb}
 use seplogic.Ra.Ura.{Ura}
-use seplogic.Ra.TreeShare.{full_share}
+use base.Fraction.{full_share}
 use mir.Syntax.{Ty, Lifetime, Mutability, w64, ty_int, ty_ref, field, Place, place, copy, int, Rv as RValue, op2, mul, offset, unsigned, Body, seq, assign}
 use mir.Val.{Val, vint, vptr, vstruct, vcons, vnil}
 use base.Fml.{Share, fat, fdies}

@@ -10,7 +10,7 @@ use native.Mathlib.Omega.{arith}
 use lib.Dec.{T as Holds}
 use lib.WfN.{lt-wf_rel}
 use seplogic.Ra.Ura.{Ura}
-use seplogic.Ra.TreeShare.{full_share}
+use base.Fraction.{full_share}
 use mir.Syntax.{Ty, Body, loop}
 use mir.Val.{Val}
 use base.Logic.{SProp, ent, ex, guard, via, ex_i, ex_e, guard_i, guard_e}

@@ -7,7 +7,7 @@ pub use mathlib.Core.List.{[], ◌∷◌, List}
 pub use lib.Dec.{ltb, lt→ltb, ltb→lt, lit<}
 pub use lib.ListN.{length, get_or}
 pub use seplogic.Ra.Ura.{Ura}
-pub use seplogic.Ra.TreeShare.{full_share}
+pub use base.Fraction.{full_share}
 pub use mir.Syntax.{Ty, loop, named, mut, imm, w32, w64, ty_int, ty_bool, ty_ptr, ty_ref, ty_unit}
 pub use mir.Val.{Val, vunit, vbool, vint}
 pub use base.Logic.{SProp, ent, id⊢}
@@ -18,9 +18,9 @@ pub use prog.Wp.{Heap, Out, Env, after_seq, after_block, Wp, at_return, WpFn, Ta
 unfoldable pub use prog.Wp.{after_turn}
 pub use ghost.Atoms.{Atoms}
 pub use contract.Monad.{Fun}
-pub use contract.Running.{given_of, tables}
+pub use contract.Running.{tables}
 unfoldable pub use contract.Running.{tables_of}
-pub use types.Kit.{Given, Item, ‵, ◌⊛◌, ⋆, any_q, at_ret, ◌$◌, ◌∵◌, !, qed, by, move, keep, drop, split, join, rewrite, fsplit, fjoin}
+pub use types.Kit.{Item, ‵, ◌⊛◌, ⋆, any_q, at_ret, ◌$◌, ◌∵◌, !, qed, by, move, keep, drop, split, join, rewrite, fsplit, fjoin}
 pub use types.Kit.{feq_l, feq_i, suffices, frame, done}
 pub use types.Run.{look, look_raw, init, store, store_raw, forget, stop, hop, fld, from, load, lit, unit_lit, of_opd, bin, addr, and_then, no_more}
 pub use types.Run.{assigns, assigns_last, stays, leaves_loop, returns, enter, alloc1, alloc0, params1, pass1}

@@ -1,6 +1,6 @@
 -- From a walk of code by hand to the contract that it meets. Rests on the kit's rule of walks.
 use seplogic.Ra.Ura.{Ura}
-use mir.Syntax.{Name, Fn}
+use mir.Syntax.{Callee, Fn}
 use prog.Model.{Model}
 use prog.Routine.{Env as Table}
 use prog.Wp.{WpFn, Closed}
@@ -14,7 +14,7 @@ use denote.Triple.Table.{entered}
 use denote.Triple.Walked.{Stays, Walks, AllGo, walk_Meets}
 
 module _ {M : Type 1} {𝓤 : Ura M} (𝓛 : Logic 𝓤) (𝓜 : Model 𝓤 𝓛.H) (𝓡 : Running 𝓤 𝓛.H 𝓜)
-    (T : Ended) (hs : Stays T.signature.params T.kept) (c : Clauses 𝓤 T) (γ : Table) (k : Name) (fn : Fn) where
+    (T : Ended) (hs : Stays T.signature.params T.kept) (c : Clauses 𝓤 T) (γ : Table) (k : Callee) (fn : Fn) where
   open 𝓛 use {H}
 
   pub walk_spec : AllGo 𝓛 T.signature.lifetimes T.signature.params T.kept hs
