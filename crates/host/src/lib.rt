@@ -42,6 +42,7 @@ fn answer_word(a: Answer) -> u64
 }
 
 // T of a flow, or 65,536 + the refusal number.
+#[tactic(auto, using(bounds::proofs::Numbers::window_most))]
 #[unsafe(no_mangle)]
 pub extern "C" fn hrt_window(plan: &[u8], flow: u32) -> u32
     ensures { result ≡ window_word (window_answer plan.now flow) }
@@ -66,6 +67,7 @@ pub extern "C" fn hrt_flight(plan: &[u8], flow: u32) -> u64
 }
 
 // The length of the notes, the leading part of the file.
+#[tactic(auto, unfolding(crate::specs::Words::notes_answer))]
 #[unsafe(no_mangle)]
 pub extern "C" fn hrt_notes(plan: &[u8]) -> u64
     ensures { result ≡ answer_word (notes_answer plan.now) }
