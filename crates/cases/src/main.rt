@@ -3,11 +3,12 @@
 
 mod line;
 
-ghost use Rattle.std.specs.Prelude.{◌≤◌, ◌<◌, length};
+ghost use Rattle.std.specs.Prelude.{◌≤◌, ◌<◌, IfOk, length};
 
 use flow::Offerer;
-use libc::{STDIN_FILENO, STDOUT_FILENO};
 use plan::Answer;
+use std::io;
+use std::io::{Read, Write};
 
 // The words, as their letters' bytes: #, read, window, burst, flight, reset, offer, trial, set, step, steps, why, write, word, byte.
 const NOTE: u64 = 0x23;
@@ -40,62 +41,44 @@ const WORD: u64 = 0x776f7264;
 
 const BYTE: u64 = 0x62797465;
 
-// What is written: a byte, a number with a space before it, a refusal, an answer behind a colon.
-fn mark(b: u8) {
-    let one = [b];
-    io::write_all(STDOUT_FILENO, &one);
-}
-
-fn number(n: u32) {
-    mark(b' ');
-    io::print_decimal(STDOUT_FILENO, n as u64);
-}
-
-fn refused(n: u32, place: u32) {
-    io::write_all(STDOUT_FILENO, b" refused");
-    number(n);
-    number(place);
-}
-
-// A line's end. A note has no answer.
-fn tell_line(word: u64, answer: Answer) {
+// What is written: an answer behind a colon. A note has none.
+fn tell_line(rt: &impl Print, word: u64, answer: Answer) -> io::Result<()> {
     if word != NOTE {
-        tell(answer);
+        tell(rt, answer)?;
     }
-    mark(b'\n');
+    println!(rt)
 }
 
-fn tell(answer: Answer) {
-    mark(b':');
+fn tell(rt: &impl Print, answer: Answer) -> io::Result<()> {
     match answer {
-        Answer::Done(value) => number(value),
-        Answer::Refused { number: n, place } => refused(n, place),
+        Answer::Done(value) => print!(rt; ": {value}"),
+        Answer::Refused { number, place } => print!(rt; ": refused {number} {place}"),
     }
 }
 
 // The first words of a delivery memory, so many.
-fn tell_first(delivery: &[u32; 80], n: usize)
+fn tell_first(rt: &impl Print, delivery: &[u32; 80], n: usize) -> io::Result<()>
     requires { n ≤ 80 }
 {
-    mark(b':');
-    for i in 0..n {
-        number(delivery[i]);
+    print!(rt; ":")?;
+    for word in &delivery[..n] {
+        print!(rt; " {word}")?;
     }
+    Ok(())
 }
 
 // The clock, if the words that are lent have one.
-fn tell_clock(state: &[u32]) {
-    mark(b':');
+fn tell_clock(rt: &impl Print, state: &[u32]) -> io::Result<()> {
+    print!(rt; ":")?;
     if 3 < state.len() {
-        number(state[3]);
+        print!(rt; " {}", state[3])?;
     }
+    Ok(())
 }
 
 // Both words of a reason list.
-fn tell_reasons(reasons: &[u32; 2]) {
-    mark(b':');
-    number(reasons[0]);
-    number(reasons[1]);
+fn tell_reasons(rt: &impl Print, reasons: &[u32; 2]) -> io::Result<()> {
+    print!(rt; ": {} {}", reasons[0], reasons[1])
 }
 
 // What is lent is no longer than the memory.
@@ -117,35 +100,35 @@ fn offer_set(state: &mut [u32], entries: usize, flow: u32) -> Answer {
 }
 
 // A step, with nines in the delivery memory: its first five words afterwards stand before the answer.
-fn step(state: &mut [u32], room: u32) -> Answer {
+fn step(rt: &impl Print, state: &mut [u32], room: u32) -> io::Result<Answer> {
     let mut delivery = [9u32; 80];
     let n = at_most(room as u64, 80);
     let answer = step::step(state, &mut delivery[..n]);
-    tell_first(&delivery, 5);
-    answer
+    tell_first(rt, &delivery, 5)?;
+    Ok(answer)
 }
 
 // So many steps in one call, with nines in the delivery memory: the clock afterwards and the first ten words stand before the answer.
-fn steps(state: &mut [u32], cycles: usize, room: u32) -> Answer {
+fn steps(rt: &impl Print, state: &mut [u32], cycles: usize, room: u32) -> io::Result<Answer> {
     let mut delivery = [9u32; 80];
     let n = at_most(room as u64, 80);
     let k = low(cycles as u64);
     let answer = steps::steps(state, &mut delivery[..n], k);
-    tell_clock(state);
-    tell_first(&delivery, 10);
-    answer
+    tell_clock(rt, state)?;
+    tell_first(rt, &delivery, 10)?;
+    Ok(answer)
 }
 
 // A step that tells reasons, with nines in the delivery memory and in a list of so many words, at most two: both words of the list
 // afterwards stand before the answer.
-fn step_reasons(state: &mut [u32], list: usize, room: u32) -> Answer {
+fn step_reasons(rt: &impl Print, state: &mut [u32], list: usize, room: u32) -> io::Result<Answer> {
     let mut delivery = [9u32; 80];
     let mut reasons = [9u32; 2];
     let n = at_most(room as u64, 80);
     let k = at_most(list as u64, 2);
     let answer = telling::step_reasons(state, &mut delivery[..n], &mut reasons[..k]);
-    tell_reasons(&reasons);
-    answer
+    tell_reasons(rt, &reasons)?;
+    Ok(answer)
 }
 
 fn read_back(target: &[u8; 24]) -> Answer {
@@ -153,50 +136,65 @@ fn read_back(target: &[u8; 24]) -> Answer {
 }
 
 // The answer of writing stands before that of reading what was written.
-fn write(state: &[u32], notes: &[u8], room: u32) -> Answer {
+fn write(rt: &impl Print, state: &[u32], notes: &[u8], room: u32) -> io::Result<Answer> {
     let mut target = [0u8; 24];
     let n = at_most(room as u64, 24);
-    tell(writing::write(state, notes, &mut target[..n]));
-    read_back(&target)
+    tell(rt, writing::write(state, notes, &mut target[..n]))?;
+    Ok(read_back(&target))
 }
 
 // The calls that leave the state as it is. A line that is none of the script's is refused with 0.
-fn ask(word: u64, file: &[u8], state: &[u32], last: u32) -> Answer {
+fn ask(rt: &impl Print, word: u64, file: &[u8], state: &[u32], last: u32) -> io::Result<Answer> {
     match word {
-        READ => plan::plan_answer(file),
-        WINDOW => bounds::window(file, last),
-        BURST => bounds::burst(file, last, low(state.len() as u64)),
-        FLIGHT => bounds::flight_bound(file, last),
-        WRITE => write(state, file, last),
-        BYTE | WORD => Answer::Done(0),
-        _ => Answer::Refused {
+        READ => Ok(plan::plan_answer(file)),
+        WINDOW => Ok(bounds::window(file, last)),
+        BURST => Ok(bounds::burst(file, last, low(state.len() as u64))),
+        FLIGHT => Ok(bounds::flight_bound(file, last)),
+        WRITE => write(rt, state, file, last),
+        BYTE | WORD => Ok(Answer::Done(0)),
+        _ => Ok(Answer::Refused {
             number: 0,
             place: 0,
-        },
+        }),
     }
 }
 
 // Each call, on what it is lent. The last number is a flow, or the words of the delivery memory or the bytes of the target.
-fn call(word: u64, file: &[u8], state: &mut [u32], last: u32) -> Answer {
+fn call(
+    rt: &impl Print,
+    word: u64,
+    file: &[u8],
+    state: &mut [u32],
+    last: u32,
+) -> io::Result<Answer> {
     match word {
-        RESET => reset::reset(file, state),
-        OFFER => offer::offer(Offerer::Sonar, state, last),
-        TRIAL => offer::offer(Offerer::Generator, state, last),
-        SET => offer_set(state, file.len(), last),
-        STEP => step(state, last),
-        STEPS => steps(state, file.len(), last),
-        WHY => step_reasons(state, file.len(), last),
-        _ => ask(word, file, state, last),
+        RESET => Ok(reset::reset(file, state)),
+        OFFER => Ok(offer::offer(Offerer::Sonar, state, last)),
+        TRIAL => Ok(offer::offer(Offerer::Generator, state, last)),
+        SET => Ok(offer_set(state, file.len(), last)),
+        STEP => step(rt, state, last),
+        STEPS => steps(rt, state, file.len(), last),
+        WHY => step_reasons(rt, state, file.len(), last),
+        _ => ask(rt, word, file, state, last),
     }
 }
 
 // The first bytes of the plan file and the first words of the state are lent, as many as the line says. A set has as many entries, a
 // reason list as many words, and as many steps run in one call, as there would be bytes; a burst has as many packets as there would
 // be words.
-fn lend(word: u64, file: &[u8], bytes: u64, state: &mut [u32], words: u64, last: u32) {
+fn lend(
+    rt: &impl Print,
+    word: u64,
+    file: &[u8],
+    bytes: u64,
+    state: &mut [u32],
+    words: u64,
+    last: u32,
+) -> io::Result<()> {
     let n = at_most(bytes, file.len());
     let k = at_most(words, state.len());
-    tell_line(word, call(word, &file[..n], &mut state[..k], last));
+    let answer = call(rt, word, &file[..n], &mut state[..k], last)?;
+    tell_line(rt, word, answer)
 }
 
 // A line changes a word of the state, or a byte of the plan file, if it asks for that.
@@ -270,7 +268,7 @@ struct Asked {
     c: u64,
 }
 
-// The line at a place, written again.
+// The line at a place.
 fn line_at(script: &[u8], at: usize) -> Asked
     requires { at < length script.now }
     ensures { (at ≤ result.end) × (result.end ≤ length script.now) }
@@ -280,7 +278,6 @@ fn line_at(script: &[u8], at: usize) -> Asked
     let b = line::field_of(script, at, 3).value;
     let c = line::field_of(script, at, 4).value;
     let end = word.end;
-    io::write_all(STDOUT_FILENO, &script[at..end]);
     Asked {
         end,
         word: checked(script[at], word.value, a, b, c),
@@ -290,23 +287,40 @@ fn line_at(script: &[u8], at: usize) -> Asked
     }
 }
 
-// Each line, on one plan file and one state.
-fn run(script: &[u8], file: &mut [u8], state: &mut [u32]) {
+// Each line, written again, and its answer, on one plan file and one state.
+fn run(rt: &impl Print, script: &[u8], file: &mut [u8], state: &mut [u32]) -> io::Result<()> {
     let mut at = 0;
     while at < script.len() {
         let l = line_at(script, at);
+        io::writer(rt).write_all(&script[at..l.end])?;
         put_byte(l.word, file, l.a, l.b);
         put_word(l.word, state, l.a, l.b);
-        lend(l.word, file, l.a, state, l.b, low(l.c));
+        lend(rt, l.word, file, l.a, state, l.b, low(l.c))?;
         at = l.end + 1;
     }
+    Ok(())
+}
+
+// Fills the memory from its start, up to its end or the input's, and answers how many bytes came.
+fn read_full(input: &mut impl Read, script: &mut [u8]) -> io::Result<usize>
+    ensures { IfOk result (λ n. n ≤ length script.new) }
+{
+    let mut done = 0;
+    while done < script.len() {
+        let n = input.read(&mut script[done..])?;
+        if n == 0 {
+            break;
+        }
+        done += n;
+    }
+    Ok(done)
 }
 
 // A script has at most 16,384 bytes.
-fn main() {
+fn main(rt: HostRuntime) -> io::Result<()> {
     let mut script = [0u8; 16384];
-    let n = io::read_full(STDIN_FILENO, &mut script);
+    let n = read_full(&mut rt.stdin(), &mut script)?;
     let mut file = [0u8; 65537];
     let mut state = [7u32; 156];
-    run(&script[..n], &mut file, &mut state);
+    run(&rt, &script[..n], &mut file, &mut state)
 }
