@@ -8,14 +8,13 @@ use lib.ListN.{length, take, drop, replicate, length-drop, length-replicate, dro
 use lib.Seq.{take_all}
 use Rattle.flow.specs.Limits.{last_clock, exit_size}
 use Rattle.flow.proofs.Limits.{StepPasses, step_passes}
-use Rattle.router.specs.Delivery.{words_of}
 use Rattle.router.proofs.Delivery.{words_length}
 use Rattle.state.specs.Layout.{router_size}
 use Rattle.state.specs.Read.{sx_in, sy_in, clock_in, plan_in, state_of}
 use Rattle.cycle.specs.Step.{deliveries}
 use Rattle.cycle.proofs.Deliveries.{exits_fit}
 use Rattle.entry.proofs.Entrant.{entrants_none}
-use Rattle.step.specs.Next.{Stepping, Room}
+use Rattle.step.specs.Next.{Room}
 use Rattle.steps.specs.Loop.{Checked, Rooms, number_behind, FreeBehind, AllZero}
 
 -- the part of a memory behind a place, lent and given back
