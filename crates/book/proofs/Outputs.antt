@@ -1,6 +1,6 @@
 -- Who leaves a router by each way out: the line in W, the line in N or the client's, and of these one at most. Rests on Held, Queue and
 -- the laws of the routing rule.
-use mathlib.Core.Bool.{Bool, true, false, cond, ◌&&◌, and_true as and_so, false≢true}
+use mathlib.Core.Bool.{Bool, true, false, cond, ◌&&◌, and-true as and_so, false≢true}
 use mathlib.Core.List.{List, [], Memᴰ as Mem}
 use mathlib.Core.Logic.{inl, inr}
 use mathlib.Core.Option.{Option, none, some}
