@@ -6,16 +6,15 @@ use lib.ListN.{length}
 use Rattle.laws.specs.Turns.{turns}
 use Rattle.flow.specs.Plan.{Plan}
 use Rattle.flow.specs.Limits.{exit_size, used_room, step_number}
-use Rattle.plan.specs.declared.Answer.{Answer}
 use Rattle.plan.specs.declared.Answer.TheVariants.{Done}
-use Rattle.router.specs.Delivery.{Delivery, words_of}
+use Rattle.router.specs.Delivery.{words_of}
 use Rattle.book.specs.Book.{Book}
 use Rattle.book.specs.Feed.{Fed, advanced, ran_many}
 use Rattle.book.specs.Feed as Feed
 use Rattle.book.proofs.Kept.{Kept, kept_many}
 use Rattle.state.specs.Words.{state_words}
 use Rattle.state.specs.Read.{state_of}
-use Rattle.state.specs.Outcome.{Outcome, outcome, Lent, lent, over}
+use Rattle.state.specs.Outcome.{outcome, lent, over}
 use Rattle.cycle.specs.Step.{step_state, deliveries, step_on}
 use Rattle.cycle.specs.Steps.{steps_on}
 use Rattle.cycle.specs.Progress.{Progress, next_number, progress}
