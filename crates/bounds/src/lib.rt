@@ -107,12 +107,26 @@ pub fn burst_of(file: &[u8], t: Trailer, columns: &[u32], f: u32, packets: u32) 
     burst_in(file, t, columns, f, &mut rivals, packets)
 }
 
-// The window T of flow f of an accepted file: that of one packet.
+// The window T of flow f of an accepted file, with room for its rivals: that of one packet.
+fn window_in(file: &[u8], t: Trailer, columns: &[u32], f: u32, rivals: &mut [u32]) -> Window
+    requires flow_in_file { (FlowInFile file.now t f) × (rival_words * t.count ≤ length rivals.old) }
+    requires turning_in { TurningIn (plan_of file.now) columns.now }
+    ensures { result ≡ window_of (plan_of file.now) f }
+{
+    burst_in(file, t, columns, f, rivals, 1)
+}
+
+// The window T of flow f of an accepted file, by its turning rows. Few flows need little room.
 pub fn window_of(file: &[u8], t: Trailer, columns: &[u32], f: u32) -> Window
     requires { (FlowInFile file.now t f) × (TurningIn (plan_of file.now) columns.now) }
     ensures { result ≡ window_of (plan_of file.now) f }
 {
-    burst_of(file, t, columns, f, 1)
+    if t.count <= 64 {
+        let mut few = [0u32; window::RIVAL_WORDS * 64];
+        return window_in(file, t, columns, f, &mut few);
+    }
+    let mut rivals = [0u32; window::MOST_RIVAL_WORDS];
+    window_in(file, t, columns, f, &mut rivals)
 }
 
 // The flight bound of flow f of an accepted file, by its turning rows.

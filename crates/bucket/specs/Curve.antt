@@ -1,7 +1,7 @@
 -- The curve of a flow: how often it can enter in a span of cycles (01, Windows, with 02's U3).
 use Rattle.std.specs.Prelude.{ℕ, ◌+◌, ◌-◌, ◌/◌}
 
--- ⌈d/P⌉, the least number of periods that cover d cycles: `ceiling-least`
+-- ⌈d/P⌉, the least number of periods that cover d cycles: `ceiling_least`
 unfoldable pub ceiling : ℕ → ℕ → ℕ
 ceiling d period = (d + (period - 1)) / period
 

@@ -1,4 +1,4 @@
--- A step that also tells why each flow didn't enter (02, U7). Answer, state and deliveries are those of `stepOn`.
+-- A step that also tells why each flow didn't enter (02, U7). Answer, state and deliveries are those of `step_on`.
 use Rattle.std.specs.Prelude.{List, ◌≡◌, ℕ, ◌+◌, ◌<◌, eqb, length, get_or}
 use Rattle.laws.specs.Count.{one}
 use Rattle.plan.specs.declared.Answer.{Answer}

@@ -1,5 +1,5 @@
 -- Many steps in one call: that many steps, one after the other, each delivering behind the last. They end early before a step for which
--- the delivery memory left is too short, and at the last clock. Answers and memories are those of `stepOn`, step by step.
+-- the delivery memory left is too short, and at the last clock. Answers and memories are those of `step_on`, step by step.
 use Rattle.std.specs.Prelude.{List, ◌++◌, ℕ, ◌+◌, ◌*◌, take, drop}
 use Rattle.laws.specs.Turns.{turns}
 use Rattle.flow.specs.Limits.{exit_size, most_delivered}

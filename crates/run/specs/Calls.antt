@@ -1,5 +1,5 @@
 -- The calls of a list on one state: what each is lent, and what it does to the memory lent to it. The packet book isn't named here.
--- A later request's call is one case more of `Asked`, `onWords` and `offersOf`.
+-- A later request's call is one case more of `Asked`, `on_words` and `offers_of`.
 use Rattle.std.specs.Prelude.{List, [], ◌∷◌, ◌++◌, ℕ, ◌+◌, eqb, take, drop}
 use Rattle.laws.specs.Count.{one, count}
 use Rattle.flow.specs.declared.Offerer.{Offerer}

@@ -1,11 +1,11 @@
--- `window_of`: T is B of one packet.
-use mathlib.Core.Path.{◌∙◌}
+-- `window_of`: a plan has few enough flows for the room that is lent.
 use native.Mathlib.Omega.{arith}
-use Rattle.window.proofs.Windows.{burst_one}
+use Rattle.bounds.proofs.Opened.{opened_few}
 use Rattle.bounds.proofs.window_of.Goals as goal
 
-pub burst_of-requires : goal.burst_of-requires
-burst_of-requires c = record { flow_in_file = c.requires; le_packets = (omega arith, omega arith) }
-
-pub returns : goal.returns
-returns c = c.burst_of.ensures ∙ burst_one _ _
+pub window_in-requires-2 : goal.window_in-requires-2
+window_in-requires-2 c =
+    record {
+      flow_in_file = (c.requires.0, omega (arith, opened_few _ _ c.requires.0.opened));
+      turning_in = c.requires.1;
+    }
