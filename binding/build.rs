@@ -14,7 +14,7 @@ fn main() {
     let archive = folder.join("libhost.a");
     println!("cargo:rerun-if-changed={}", archive.display());
     if fs::metadata(&archive).is_err() {
-        eprintln!("{} isn't there; `rt staticlib host` proves and builds it", archive.display());
+        eprintln!("{} isn't there; binding/archive proves and builds it", archive.display());
         exit(1);
     }
     println!("cargo:rustc-link-search=native={}", folder.display());

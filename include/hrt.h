@@ -1,4 +1,4 @@
-/* The C interface of Kimboryu. Link with target/staticlib/libhost.a (rt staticlib host).
+/* The C interface of Kimboryu. Link with target/staticlib/libhost.a (binding/archive).
  *
  * Memory is lent as a pointer and a count of its elements. The pointer is not null, even for a count of 0.
  * Memories lent to one call don't overlap: hrt_reset's plan and state, hrt_step's and hrt_steps' state and delivery,
