@@ -24,7 +24,7 @@ use Rattle.turning.specs.Turning as Turning
 use Rattle.conflict.specs.Conflict as Conflict
 use Rattle.window.specs.Window as Window
 use Rattle.window.specs.Window.{interference, window_of, burst_window_of}
-use Rattle.window.proofs.Windows.{burst_one, burst_none}
+use Rattle.window.proofs.BurstWindows.{burst_one, burst_none}
 use Rattle.bounds.specs.Bounds as Bounds
 use Rattle.bounds.specs.Bounds.{window_answer, window_by, burst_answer}
 use Rattle.router.specs.Links as Links

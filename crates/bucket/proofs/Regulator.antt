@@ -204,6 +204,10 @@ module _ (burst period : ℕ) where
     tokens_cycle true = let more = counted_tokens _ _ (counted (after_spend b) (spent_fits true b held.fitting)) in omega arith
     tokens_cycle false = let more = counted_tokens _ _ (counted b held.fitting) in omega arith
 
+    -- without one, a token stays
+    pub token_stays : 1 ≤ b.tokens → 1 ≤ (after_cycle burst period false b).tokens
+    token_stays some = let more = tokens_cycle false in omega arith
+
     pub fits : bucket_fits burst period b ≡ true
     fits = fitting_fits b held.fitting
 

@@ -11,7 +11,7 @@ use Rattle.laws.proofs.Count.{count_find}
 use Rattle.flow.specs.Plan.{Plan}
 use Rattle.window.specs.declared.Window.TheVariants.{At}
 use Rattle.window.specs.Window.{burst_window_of}
-use Rattle.window.proofs.Windows.{burst_least}
+use Rattle.window.proofs.BurstWindows.{burst_least}
 use Rattle.book.specs.Line.{Line}
 use Rattle.book.specs.Book.{Book, of_flow, total_of, waiting_of, entered_of}
 use Rattle.book.specs.Feed.{run_from}

@@ -13,7 +13,7 @@ use Rattle.flow.specs.Ranges.{PlanOk}
 use Rattle.conflict.specs.declared.Conflict.{Conflict}
 use Rattle.conflict.specs.declared.Conflict.TheVariants.{Free, Spread}
 use Rattle.conflict.specs.Conflict.{conflict}
-use Rattle.window.specs.Window.{share, share_of, interference, least_window, burst_window_of}
+use Rattle.window.specs.Window.{share, share_of, interference, least_from, most_window, window_of, least_window, burst_window_of}
 use Rattle.window.specs.declared.Kept.{Kept}
 use Rattle.window.specs.declared.Window.TheVariants.{Nothing}
 use Rattle.window.specs.Rivals.{rival_words, whole_link, demand_of, RivalsAmong, Gathered, keep_rival}
@@ -21,7 +21,7 @@ use Rattle.conflict.proofs.Spread.{SpreadMost, none, some, conflict_most}
 use Rattle.window.proofs.Rivals.{demand_none, with_demand, with_ok}
 use Rattle.window.proofs.Rates.{pace_more, filled}
 use Rattle.window.proofs.Bursts.{goes_in}
-use Rattle.window.proofs.Windows.{burst_none}
+use Rattle.window.proofs.BurstWindows.{burst_one, burst_none}
 
 -- no flows, no rivals
 pub among_none : (p : Plan) (f : ℕ) (l : List ℕ) → rival_words * length p.flows ≤ length l
@@ -36,21 +36,30 @@ among_none p f l long =
       paced = λ t h. omega arith;
     }
 
--- the rivals among all flows make I(t), so their least window for k packets is B
-pub among_all : (p : Plan) (f k : ℕ) (l : List ℕ) (kept : Kept) → RivalsAmong p f (length p.flows) l kept
+-- the rivals among all flows make I(t), so their least window is T
+pub among_all : (p : Plan) (f : ℕ) (l : List ℕ) (k : Kept) → RivalsAmong p f (length p.flows) l k
+    → least_from (demand_of l k.count) most_window 1 ≡ window_of p f
+unfolding window_of interference
+among_all p f l k h = ap (λ (I : ℕ → ℕ). least_from I most_window 1) (fun_ext h.sum)
+
+-- and that for k packets is B
+pub burst_all : (p : Plan) (f k : ℕ) (l : List ℕ) (kept : Kept) → RivalsAmong p f (length p.flows) l kept
     → least_window (goes_in (demand_of l kept.count) k) ≡ burst_window_of p f k
 unfolding burst_window_of interference
-among_all p f k l kept h = ap (λ (I : ℕ → ℕ). least_window (goes_in I k)) (fun_ext h.sum)
+burst_all p f k l kept h = ap (λ (I : ℕ → ℕ). least_window (goes_in I k)) (fun_ext h.sum)
 
 module _ (p : Plan) (f m : ℕ) (l : List ℕ) (k : Kept) (h : RivalsAmong p f m l k) where
   abbrev n : ℕ
   n = k.count
 
   -- where their rates fill the link there is none for any packet, whatever flows are left
-  pub among_filled : (packets : ℕ) → 1 ≤ packets → m ≤ length p.flows → whole_link ≤ k.rates → burst_window_of p f packets ≡ Nothing
+  pub burst_filled : (packets : ℕ) → 1 ≤ packets → m ≤ length p.flows → whole_link ≤ k.rates → burst_window_of p f packets ≡ Nothing
   unfolding interference
-  among_filled packets least below full =
+  burst_filled packets least below full =
       burst_none p f packets (λ t from to. omega (arith, filled _ t _ (h.paced t from) full, h.sum t, sum_grow (share_of p f t) m _ below))
+
+  pub among_filled : m ≤ length p.flows → whole_link ≤ k.rates → window_of p f ≡ Nothing
+  among_filled below full = sym (burst_one p f) ∙ burst_filled 1 (omega arith) below full
 
   -- a flow is no rival of its own
   pub among_self : m ≡ f → RivalsAmong p f (m + 1) l k

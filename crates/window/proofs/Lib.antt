@@ -2,6 +2,7 @@
 pub mod Least
 pub mod Bursts
 pub mod Windows
+pub mod BurstWindows
 pub mod Rivals
 pub mod Rates
 pub mod Gathered

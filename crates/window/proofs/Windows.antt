@@ -1,34 +1,17 @@
--- Laws of the windows T and B, for whoever has one or none; they open neither the search nor I. Rests on Bursts.
-use mathlib.Core.Path.{◌≡◌, ◌∙◌}
-use Prim.Native.Nat.{ℕ, ◌+◌, ◌≤◌}
-use native.Mathlib.Omega.{arith}
+-- Laws of the window T, for whoever has one or none; they open neither the search nor I. Rests on Least.
+use mathlib.Core.Path.{◌≡◌}
+use Prim.Native.Nat.{ℕ, ◌+◌}
 use Rattle.flow.specs.Plan.{Plan}
 use Rattle.window.specs.declared.Window.TheVariants.{At, Nothing}
-use Rattle.window.specs.Window.{interference, most_window, window_of, burst_window_of, BurstOfOne}
-use Rattle.window.proofs.Bursts.{Least, Tried, at_least, least_none, least_most, least_one}
+use Rattle.window.specs.Window.{interference, most_window, window_of}
+use Rattle.window.proofs.Least.{Least, Tried, at_least, least_none}
 
--- for every plan and flow
-pub burst_one : BurstOfOne
-unfolding burst_window_of window_of
-burst_one p f = least_one (interference p f)
+-- T is 1..65,535, I(T) < T, and t ≤ I(t) for every smaller t
+pub window_least : (p : Plan) (f T : ℕ) → window_of p f ≡ At T → Least (interference p f) most_window 1 T
+unfolding window_of
+window_least p f T e = at_least _ _ _ _ e
 
--- B is 1..65,535, I(B) + k ≤ B, and t < I(t) + k for every smaller t
-pub burst_least : (p : Plan) (f k B : ℕ) → burst_window_of p f k ≡ At B → Least (interference p f) k most_window 1 B
-unfolding burst_window_of
-burst_least p f k B e = at_least _ _ _ _ _ e
-
--- and so is T, with 1 for k
-pub window_least : (p : Plan) (f T : ℕ) → window_of p f ≡ At T → Least (interference p f) 1 most_window 1 T
-window_least p f T e = burst_least p f 1 T (burst_one p f ∙ e)
-
--- where t < I(t) + k for every t of 1..65,535 there is no window
-pub burst_none : (p : Plan) (f k : ℕ) → Tried (interference p f) k 1 (1 + most_window) → burst_window_of p f k ≡ Nothing
-unfolding burst_window_of
-burst_none p f k h = least_none _ _ _ _ h
-
--- where a burst has a window, a smaller one has one that is no larger
-pub burst_grows : (p : Plan) (f j k C : ℕ) → j ≤ k → burst_window_of p f k ≡ At C → (B : ℕ) × ((burst_window_of p f j ≡ At B) × (B ≤ C))
-unfolding burst_window_of
-burst_grows p f j k C fewer e =
-    let large = burst_least p f k C e in
-    least_most (interference p f) j most_window 1 C large.from large.to (omega (arith, large.free))
+-- where t ≤ I(t) for every t of 1..65,535 there is no window
+pub window_none : (p : Plan) (f : ℕ) → Tried (interference p f) 1 (1 + most_window) → window_of p f ≡ Nothing
+unfolding window_of
+window_none p f h = least_none _ _ _ h

@@ -4,7 +4,7 @@ use Prim.Native.Nat.{◌+◌, ◌≤◌}
 use borrow.Author.Tests.{leb-true}
 use native.Mathlib.Omega.{arith}
 use lib.ListN.{length}
-use Rattle.window.proofs.Gathered.{among_none, among_filled, among_all}
+use Rattle.window.proofs.Gathered.{among_none, burst_filled, burst_all}
 use Rattle.bounds.proofs.Opened.{opened_count, opened_few, flow_pair}
 use Rattle.bounds.proofs.burst_in.Goals as goal
 use Rattle.bounds.proofs.burst_in.Goals.{After-meet-kept}
@@ -41,7 +41,7 @@ pub returns-then-fills_link : goal.returns-then-fills_link
 returns-then-fills_link c =
     let count = opened_count _ _ c.requires.flow_in_file.0.opened in
     let full = leb-true _ _ (sym c.fills_link.ensures ∙ c.if-fills_link.true) in
-    sym (among_filled _ _ _ _ _ c.meet-kept.ensures _ c.requires.le_packets.0 (rw count (passed (goal.at.returns-then-fills_link c).After-meet-kept)) full)
+    sym (burst_filled _ _ _ _ _ c.meet-kept.ensures _ c.requires.le_packets.0 (rw count (passed (goal.at.returns-then-fills_link c).After-meet-kept)) full)
 
 pub overflow_step-g : goal.overflow_step-g
 overflow_step-g c =
@@ -60,7 +60,7 @@ pub returns : goal.returns
 returns c =
     let count = opened_count _ _ c.requires.flow_in_file.0.opened in
     let all : c.loop-g.g ≡ c.args.t.count = omega (arith, c.loop-g-test.false, c.loop-g.invariant.0) in
-    c.least_burst.ensures ∙ among_all _ _ _ _ _ (rw (all ∙ sym count) at c.loop-g.invariant.1.1)
+    c.least_burst.ensures ∙ burst_all _ _ _ _ _ (rw (all ∙ sym count) at c.loop-g.invariant.1.1)
 
 pub flow_at-own-requires : goal.flow_at-own-requires
 flow_at-own-requires c = c.requires.flow_in_file.0

@@ -1,7 +1,7 @@
 -- `window_in`: T is B of one packet.
 use mathlib.Core.Path.{◌∙◌}
 use native.Mathlib.Omega.{arith}
-use Rattle.window.proofs.Windows.{burst_one}
+use Rattle.window.proofs.BurstWindows.{burst_one}
 use Rattle.bounds.proofs.window_in.Goals as goal
 
 pub burst_in-requires : goal.burst_in-requires
