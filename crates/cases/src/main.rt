@@ -3,12 +3,12 @@
 
 mod line;
 
-ghost use Rattle.std.specs.Prelude.{◌≤◌, ◌<◌, IfOk, length};
+ghost use Rattle.std.specs.Prelude.{◌≤◌, ◌<◌, length};
 
 use flow::Offerer;
 use plan::Answer;
 use std::io;
-use std::io::{Read, Write};
+use std::io::Write;
 
 // The words, as their letters' bytes: #, read, window, burst, flight, reset, offer, trial, set, step, steps, why, write, word, byte.
 const NOTE: u64 = 0x23;
@@ -301,25 +301,10 @@ fn run(rt: &impl Print, script: &[u8], file: &mut [u8], state: &mut [u32]) -> io
     Ok(())
 }
 
-// Fills the memory from its start, up to its end or the input's, and answers how many bytes came.
-fn read_full(input: &mut impl Read, script: &mut [u8]) -> io::Result<usize>
-    ensures { IfOk result (λ n. n ≤ length script.new) }
-{
-    let mut done = 0;
-    while done < script.len() {
-        let n = input.read(&mut script[done..])?;
-        if n == 0 {
-            break;
-        }
-        done += n;
-    }
-    Ok(done)
-}
-
 // A script has at most 16,384 bytes.
 fn main(rt: HostRuntime) -> io::Result<()> {
     let mut script = [0u8; 16384];
-    let n = read_full(&mut rt.stdin(), &mut script)?;
+    let n = input::read_full(&mut rt.stdin(), &mut script)?;
     let mut file = [0u8; 65537];
     let mut state = [7u32; 156];
     run(&rt, &script[..n], &mut file, &mut state)
