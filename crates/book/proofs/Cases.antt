@@ -13,13 +13,13 @@ use Rattle.flow.specs.Limits as Limits
 use Rattle.flow.specs.Plan.{Plan}
 use Rattle.bucket.specs.Regulator as Regulator
 use Rattle.bucket.specs.Curve as Curve
-use Rattle.plan.specs.declared.Answer.TheVariants.{Refused}
+use Rattle.refusal.specs.Answer.{Refused}
 use Rattle.file.specs.Bytes as Bytes
 use Rattle.file.specs.Layout as Layout
 use Rattle.plan.specs.Refusals as Refusals
 use Rattle.plan.specs.Written as Written
 use Rattle.plan.specs.Written.{plan_bytes}
-use Rattle.window.specs.declared.Window.TheVariants.{Nothing}
+use Rattle.std.specs.Prelude.{None}
 use Rattle.turning.specs.Turning as Turning
 use Rattle.conflict.specs.Conflict as Conflict
 use Rattle.window.specs.Window as Window
@@ -40,7 +40,7 @@ unfolding Bounded.sum_below Axis.offset Turning.is_turning Turning.rows_south Cu
 in_every_cycle = (λ t some. omega (arith, div-one (t - 1 + 0)), λ t some. omega (arith, div-one (t - 1 + 0)))
 
 -- so there is no window for any packet
-none_left : (p : Plan) (f k : ℕ) → 1 ≤ k → ((t : ℕ) → 1 ≤ t → interference p f t ≡ t) → burst_window_of p f k ≡ Nothing
+none_left : (p : Plan) (f k : ℕ) → 1 ≤ k → ((t : ℕ) → 1 ≤ t → interference p f t ≡ t) → burst_window_of p f k ≡ None
 none_left p f k some full = burst_none p f k (λ t l m. omega (arith, full t l))
 
 -- what the window call on the plan's file answers for flow 0 is read off the plan's window

@@ -26,8 +26,7 @@ use Rattle.book.specs.Book.{Book, of_flow, waits_for, waiting_of, entered_of, st
 use Rattle.book.specs.Cycle.{view, enters, move, stepped, deliveries}
 use Rattle.flow.specs.Limits.{exit_size, last_clock, most_waiting, used_room, step_number}
 use Rattle.flow.proofs.Limits.{offer_passes, step_passes}
-use Rattle.plan.specs.declared.Answer.{Answer}
-use Rattle.plan.specs.declared.Answer.TheVariants.{Done, Refused}
+use Rattle.refusal.specs.Answer.{Answer, Done, Refused}
 use Rattle.plan.specs.Set.{set_number}
 use Rattle.plan.proofs.Refusals.{answer_done, or_else_done, first_done}
 use Rattle.book.specs.Feed.{Call, offer, offer_set, step, step_reasons, steps, refusal, Fed, added, ran, advanced, advance, ran_many, accepted}

@@ -15,8 +15,8 @@ use Rattle.flow.specs.declared.Port.TheVariants.{East, South}
 use Rattle.flow.specs.Offsets.{ΔX, ΔY, port_of, same_client}
 use Rattle.flow.specs.Plan.{Plan}
 use Rattle.turning.specs.Turning.{is_turning}
-use Rattle.conflict.specs.declared.Conflict.{Conflict}
-use Rattle.conflict.specs.declared.Conflict.TheVariants.{Free, Spread}
+use Rattle.conflict.specs.Conflict.{Conflict}
+use Rattle.std.specs.Prelude.{Some, None}
 use Rattle.conflict.specs.Conflict.{rows_to, columns_to, laps, conflict_east, conflict_south, conflict_by, conflict}
 
 -- g never meets f, or after K cycles and at most J more, when its progress is past the point
@@ -53,8 +53,8 @@ unfoldable pub meeting : Plan → Flow → Flow → Meeting
 meeting p f g = cond (same_client f g) (meets 0 0 0) (meeting_at p f g (port_of p.sx f))
 
 abbrev pub spread_of : Meeting → Conflict
-spread_of never = Free
-spread_of (meets K J point) = Spread J
+spread_of never = None
+spread_of (meets K J point) = Some J
 
 -- the spread is the conflict's
 pub meeting_conflict : (p : Plan) (f g : Flow) → spread_of (meeting p f g) ≡ conflict p f g

@@ -13,7 +13,7 @@ use Rattle.laws.proofs.Cases.{and_true, eqb_both, both_eqb}
 use Rattle.laws.proofs.Count.{mem_count, count_find, count_mono}
 use Rattle.flow.specs.Plan.{Plan, flow_at}
 use Rattle.flow.specs.Ranges.{PlanOk}
-use Rattle.window.specs.declared.Window.TheVariants.{At}
+use Rattle.std.specs.Prelude.{Some}
 use Rattle.window.specs.Window.{interference, window_of}
 use Rattle.window.proofs.Windows.{window_least}
 use Rattle.flight.specs.Flight.{most_deflections}
@@ -37,7 +37,7 @@ module _ (p : Plan) (b : Book) (k : Kept p b) where
   abbrev law : Lawful p b
   law = k.lawful
 
-  enters_in_time : (l : Line) → Mem l b.lines → (T : ℕ) → window_of p l.flow ≡ At T → EntersBy (deadline p l T) b.clock l.stage
+  enters_in_time : (l : Line) → Mem l b.lines → (T : ℕ) → window_of p l.flow ≡ Some T → EntersBy (deadline p l T) b.clock l.stage
   enters_in_time l m T e =
       by_stage _ _ l.stage
       (λ w. omega (arith, waiting_due p l.flow known T H sum free b law pace l m refl w))

@@ -6,11 +6,10 @@ use Rattle.flow.specs.declared.Flow.{Flow}
 use Rattle.flow.specs.declared.Offerer.TheVariants.{Sonar}
 use Rattle.flow.specs.Offsets.{ΔX, ΔY}
 use Rattle.flow.specs.Plan.{Plan, flow_with as flow, flow_at}
-use Rattle.plan.specs.declared.Answer.{Answer}
-use Rattle.plan.specs.declared.Answer.TheVariants.{Done, Refused}
+use Rattle.refusal.specs.Answer.{Answer, Done, Refused}
 use Rattle.plan.specs.Written.{plan_bytes}
-use Rattle.conflict.specs.declared.Conflict.{Conflict}
-use Rattle.conflict.specs.declared.Conflict.TheVariants.{Free, Spread}
+use Rattle.conflict.specs.Conflict.{Conflict}
+use Rattle.std.specs.Prelude.{Some, None}
 use Rattle.conflict.specs.Conflict.{conflict}
 use Rattle.flight.specs.Flight.{flight}
 use Rattle.bounds.specs.Bounds.{window_answer, burst_answer, flight_bound_of}
@@ -132,7 +131,7 @@ starred =
     ∷ window (across 10 1) (Done 3)
     ∷ window (across 2 3) (Done 7)
     ∷ window (across 1 1) (Refused 14 0)
-    ∷ conflicts along (Spread 0)
+    ∷ conflicts along (Some 0)
     ∷ window along (Done 3)
     ∷ tokens slow (offer 0 ∷ steps 1) 0
     ∷ tokens slow (offer 0 ∷ steps 9) 0
@@ -146,12 +145,12 @@ starred =
     -- to turn for g's column, and one with a turning row before it; and a bound that the flight of 7 above meets
     ∷ bound both 0 8
     ∷ bound both 1 8
-    ∷ conflicts turned (Spread 8)
+    ∷ conflicts turned (Some 8)
     ∷ window turned (Done 6)
     ∷ bound turned 1 13
-    ∷ conflicts passing Free
-    ∷ conflicts deflecting (Spread 0)
-    ∷ conflicts rounding (Spread 4)
+    ∷ conflicts passing None
+    ∷ conflicts deflecting (Some 0)
+    ∷ conflicts rounding (Some 4)
     ∷ bound meeting 0 7
     -- U9: "B for k = 1 is T", the first window above; three packets; k outside 1 to σ, after 12 and before 14; no window, with the flow as
     -- place; and three packets that are offered in cycle 10 and enter in cycles 12 to 14, the last of B, since g's two neighbouring

@@ -5,8 +5,7 @@ use Rattle.laws.specs.Turns.{turns}
 use Rattle.flow.specs.declared.Offerer.{Offerer}
 use Rattle.flow.specs.Plan.{Plan}
 use Rattle.flow.specs.Limits.{exit_size, used_room, offer_number, step_number}
-use Rattle.plan.specs.declared.Answer.{Answer}
-use Rattle.plan.specs.declared.Answer.TheVariants.{Done, Refused}
+use Rattle.refusal.specs.Answer.{Answer, Done, Refused}
 use Rattle.plan.specs.Refusals.{answer_by, refused_or}
 use Rattle.plan.specs.Set.{set_answer}
 use Rattle.book.specs.Book.{Book, start, offered, offered_first, waiting_of}

@@ -5,7 +5,7 @@ use Rattle.laws.specs.Count.{count}
 use Rattle.flow.specs.declared.Flow.{Flow}
 use Rattle.flow.specs.Offsets.{ΔY}
 use Rattle.flow.specs.Plan.{Plan, flow_at}
-use Rattle.window.specs.declared.Window.TheVariants.{At}
+use Rattle.std.specs.Prelude.{Some}
 use Rattle.window.specs.Window.{window_of}
 use Rattle.flight.specs.Flight.{travel, most_deflections}
 use Rattle.place.specs.Place.{Place, column_of, row_of}
@@ -39,7 +39,7 @@ same_words d e =
 -- the book and all that was delivered
 pub record Promises (p : Plan) (b : Book) (delivered : List Delivery) : Type 0 where
   -- where a line's flow has a window T, it enters in time
-  pub enters_by : (l : Line) → Mem l b.lines → (T : ℕ) → window_of p l.flow ≡ At T → EntersBy (deadline p l T) b.clock l.stage
+  pub enters_by : (l : Line) → Mem l b.lines → (T : ℕ) → window_of p l.flow ≡ Some T → EntersBy (deadline p l T) b.clock l.stage
   -- every D is at most ΔY of its flow
   pub deflections_most : (l : Line) → Mem l b.lines → l.D ≤ ΔY p.sy (flow_at p l.flow)
   -- 02, U8: "at most the number of turning rows among the ΔY rows south of the source, for destination column xd"

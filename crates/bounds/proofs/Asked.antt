@@ -8,8 +8,7 @@ use borrow.Author.Tests.{ltb-true}
 use lib.Dec.{ltb}
 use lib.ListN.{length}
 use Rattle.laws.proofs.Cases.{test}
-use Rattle.plan.specs.declared.Answer.{Answer}
-use Rattle.plan.specs.declared.Answer.TheVariants.{Done, Refused}
+use Rattle.refusal.specs.Answer.{Answer, Done, Refused}
 use Rattle.file.specs.declared.Trailer.{Trailer}
 use Rattle.file.specs.Layout.{trailer_of, plan_of}
 use Rattle.plan.specs.Refusals.{refused_or, plan_answer}

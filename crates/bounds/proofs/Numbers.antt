@@ -7,14 +7,13 @@ use lib.Dec.{ltb, eqb}
 use lib.ListN.{length}
 use Rattle.flow.specs.declared.Flow.{Flow}
 use Rattle.flow.specs.Plan.{on_torus, most_flows}
-use Rattle.plan.specs.declared.Answer.{Answer}
-use Rattle.plan.specs.declared.Answer.TheVariants.{Done, Refused}
+use Rattle.refusal.specs.Answer.{Answer, Done, Refused}
 use Rattle.file.specs.declared.Trailer.{Trailer}
 use Rattle.plan.specs.Refusals as Refusals
 use Rattle.plan.specs.Refusals.{answer_by, refused_or, size_ok, header_number, trailer_number, record_number, flow_number, first_refused, records_answer, plan_answer}
 use Rattle.file.specs.Layout.{most_file, record_size, trailer_size, tagged, trailer_of, plan_of}
-use Rattle.window.specs.declared.Window.{Window}
-use Rattle.window.specs.declared.Window.TheVariants.{At, Nothing}
+use Rattle.window.specs.Window.{Window}
+use Rattle.std.specs.Prelude.{Some, None}
 use Rattle.window.specs.Window.{window_of}
 use Rattle.bounds.specs.Bounds.{asked, window_by, window_answer}
 use Rattle.bounds.specs.Inner.{NumberMost}
@@ -86,5 +85,5 @@ unfolding window_answer
 window_most file f = asked_most file f 14 _ (omega arith) (found (window_of (plan_of file) f))
   where
     found : (w : Window) → NumberMost 14 (window_by f w)
-    found (At T) = tt
-    found Nothing = omega arith
+    found (Some T) = tt
+    found None = omega arith

@@ -11,12 +11,11 @@ use lib.ListN.{length}
 use Rattle.laws.proofs.Cases.{test, and_true}
 use Rattle.flow.specs.declared.Flow.{Flow}
 use Rattle.flow.specs.Plan.{flow_at}
-use Rattle.plan.specs.declared.Answer.{Answer}
-use Rattle.plan.specs.declared.Answer.TheVariants.{Done, Refused}
+use Rattle.refusal.specs.Answer.{Answer, Done, Refused}
 use Rattle.file.specs.Layout.{plan_of}
 use Rattle.plan.proofs.Refusals.{refused_done}
-use Rattle.window.specs.declared.Window.{Window}
-use Rattle.window.specs.declared.Window.TheVariants.{At, Nothing}
+use Rattle.window.specs.Window.{Window}
+use Rattle.std.specs.Prelude.{Some, None}
 use Rattle.window.specs.Window.{window_of, burst_window_of}
 use Rattle.bounds.specs.Bounds.{asked, window_by, window_answer, is_burst, burst_answer, flight_bound_answer, flight_bound_of}
 use Rattle.bounds.proofs.Asked.{Known, asked_refused, asked_done}
@@ -33,12 +32,12 @@ asked_own : (file : List ℕ) (f v : ℕ) (a : Answer) → asked file f a ≡ Do
 asked_own file f v a e = sym ((asked_known file f v a e).answers a) ∙ e
 
 -- a window that is answered is found
-found_at : (f T : ℕ) (found : Window) → window_by f found ≡ Done T → found ≡ At T
-found_at f T (At t) e = cc
-found_at f T Nothing e = absurd (refused_done 14 f T e)
+found_at : (f T : ℕ) (found : Window) → window_by f found ≡ Done T → found ≡ Some T
+found_at f T (Some t) e = cc
+found_at f T None e = absurd (refused_done 14 f T e)
 
 -- the T of the window call is the window
-pub window_told : (file : List ℕ) (f T : ℕ) → window_answer file f ≡ Done T → window_of (plan_of file) f ≡ At T
+pub window_told : (file : List ℕ) (f T : ℕ) → window_answer file f ≡ Done T → window_of (plan_of file) f ≡ Some T
 unfolding window_answer
 window_told file f T e = found_at f T _ (asked_own file f T _ e)
 
@@ -48,7 +47,7 @@ burst_range f k e = let both = and_true (leb 1 k) (leb k f.burst) e in (leb-true
 
 -- the B of the burst call is the window of k packets of a flow of the plan
 pub burst_told : (file : List ℕ) (f k B : ℕ) → burst_answer file f k ≡ Done B
-    → (f < length (plan_of file).flows) × (burst_window_of (plan_of file) f k ≡ At B)
+    → (f < length (plan_of file).flows) × (burst_window_of (plan_of file) f k ≡ Some B)
 unfolding burst_answer
 burst_told file f k B e =
     elim (test (is_burst (flow_at (plan_of file) f) k)) [

@@ -2,12 +2,11 @@
 use Rattle.std.specs.Prelude.{Bool, cond, ◌&&◌, List, ℕ, ltb, leb, length}
 use Rattle.flow.specs.declared.Flow.{Flow}
 use Rattle.flow.specs.Plan.{Plan, flow_at}
-use Rattle.plan.specs.declared.Answer.{Answer}
-use Rattle.plan.specs.declared.Answer.TheVariants.{Done, Refused}
+use Rattle.refusal.specs.Answer.{Answer, Done, Refused}
 use Rattle.file.specs.Layout.{plan_of}
 use Rattle.plan.specs.Refusals.{refused_or, plan_answer}
-use Rattle.window.specs.declared.Window.{Window}
-use Rattle.window.specs.declared.Window.TheVariants.{At, Nothing}
+use Rattle.window.specs.Window.{Window}
+use Rattle.std.specs.Prelude.{Some, None}
 use Rattle.window.specs.Window.{window_of, burst_window_of}
 use Rattle.flight.specs.Flight.{flight_bound}
 
@@ -17,8 +16,8 @@ asked file f answer = refused_or (plan_answer file) (cond (ltb f (length (plan_o
 
 -- the window, or 14: no window, with the flow as place
 abbrev pub window_by : ℕ → Window → Answer
-window_by f (At T) = Done T
-window_by f Nothing = Refused 14 f
+window_by f (Some T) = Done T
+window_by f None = Refused 14 f
 
 -- window: plan, 12, 14
 unfoldable pub window_answer : List ℕ → ℕ → Answer

@@ -1,7 +1,6 @@
 -- What inner functions ask: an accepted file with its trailer, a flow of it, and small refusal numbers. No call's answer rests on it.
 use Rattle.std.specs.Prelude.{List, ◌≡◌, ℕ, ◌≤◌, ◌<◌}
-use Rattle.plan.specs.declared.Answer.{Answer}
-use Rattle.plan.specs.declared.Answer.TheVariants.{Done, Refused}
+use Rattle.refusal.specs.Answer.{Answer, Done, Refused}
 use Rattle.file.specs.declared.Trailer.{Trailer}
 use Rattle.file.specs.Layout.{trailer_of}
 use Rattle.plan.specs.Refusals.{plan_answer}

@@ -4,7 +4,7 @@
 ghost use Rattle.std.specs.Prelude.{◌≡◌, ◌+◌, ◌*◌, ◌≤◌, length};
 ghost use Rattle.flow.specs.Offsets.{port_of};
 ghost use Rattle.flow.specs.Plan.{most_burst, flow_at};
-ghost use Rattle.plan.specs.declared.Answer.TheVariants.{Done};
+ghost use Rattle.refusal.specs.Answer.{Done};
 ghost use Rattle.file.specs.Layout.{plan_of};
 ghost use Rattle.turning.specs.Columns.{TurningIn};
 ghost use Rattle.window.specs.Window.{window_of, burst_window_of};

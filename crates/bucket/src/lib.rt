@@ -6,7 +6,7 @@ ghost use Rattle.bucket.specs.Regulator.{after_spend, after_count, bucket_fits};
 ghost use Rattle.bucket.specs.Passed.{after_cycles};
 ghost use Rattle.bucket.specs.Curve.{curve};
 
-#[derive(Clone, Copy)]
+#[derive(Clone, Copy, Debug, PartialEq, Eq)]
 pub struct Bucket {
     pub tokens: u32,
     pub count: u32,
@@ -68,10 +68,7 @@ impl Bucket {
     pub fn fits(self, burst: u32, period: u32) -> bool
         ensures { result ≡ bucket_fits burst period self }
     {
-        if burst < self.tokens {
-            return false;
-        }
-        self.count < period
+        self.tokens <= burst && self.count < period
     }
 }
 

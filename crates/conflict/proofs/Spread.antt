@@ -12,15 +12,15 @@ use Rattle.flow.specs.Plan.{Plan, most_size}
 use Rattle.flow.specs.Offsets.{ΔX, ΔY, same_client}
 use Rattle.turning.specs.Turning.{is_turning}
 use Rattle.turning.proofs.Turning.{south_most}
-use Rattle.conflict.specs.declared.Conflict.{Conflict}
-use Rattle.conflict.specs.declared.Conflict.TheVariants.{Free, Spread}
+use Rattle.conflict.specs.Conflict.{Conflict}
+use Rattle.std.specs.Prelude.{Some, None}
 use Rattle.conflict.specs.Conflict.{rows_to, columns_to, laps, conflict_east, conflict_south, conflict_by, conflict}
 use Rattle.conflict.specs.Inner.{Pair, most_spread}
 
 -- the conflict names no larger spread
 pub data SpreadMost : Conflict → Type 0 where
-  none : SpreadMost Free
-  some : {j : ℕ} → j ≤ most_spread → SpreadMost (Spread j)
+  none : SpreadMost None
+  some : {j : ℕ} → j ≤ most_spread → SpreadMost (Some j)
 
 -- at most all rows of the torus, a lap round the row for each
 pub laps_most : (sx sy : ℕ) → sx ≤ most_size → sy ≤ most_size → (turns : ℕ → Bool) (g : Flow) (r : ℕ) → r ≤ sy → laps sx sy turns g r ≤ most_spread

@@ -20,8 +20,8 @@ use Rattle.router.proofs.Limit.{every_row, every_rising}
 use Rattle.router.proofs.Path.{every_bends, Arrives, step_placed, step_entry}
 use Rattle.router.proofs.InPlace.{in_place_path}
 use Rattle.router.proofs.Entrant.{Found, no_entrant, has_entrant, found, enters_at}
-use Rattle.state.specs.declared.Register.{Register}
-use Rattle.state.specs.declared.Register.TheVariants.{Empty, Packet}
+use Rattle.state.specs.Register.{Register}
+use Rattle.std.specs.Prelude.{Some, None}
 use Rattle.state.specs.State.{State, tally_at, cell_at}
 use Rattle.state.proofs.Formed.{register_ok, StateOk}
 use Rattle.cycle.specs.Seen.{shown, seen, view, enters}

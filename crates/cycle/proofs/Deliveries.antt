@@ -8,8 +8,8 @@ use Rattle.flow.specs.Limits.{room_for}
 use Rattle.router.specs.Rule.{leave}
 use Rattle.router.specs.Delivery.{Delivery, words_of}
 use Rattle.router.proofs.Delivery.{words_length}
-use Rattle.state.specs.declared.Register.{Register}
-use Rattle.state.specs.declared.Register.TheVariants.{Empty, Packet}
+use Rattle.state.specs.Register.{Register}
+use Rattle.std.specs.Prelude.{Some, None}
 use Rattle.state.specs.State.{State}
 use Rattle.cycle.specs.Step.{carried, leaving, delivered, deliveries}
 

@@ -10,8 +10,8 @@ use Rattle.flow.specs.Plan.{most_size, flow_at}
 use Rattle.flow.specs.Ranges.{FlowOk}
 use Rattle.place.specs.Place.{Place, W, N}
 use Rattle.place.proofs.InPlace.{north_deflected}
-use Rattle.state.specs.declared.Register.{Register}
-use Rattle.state.specs.declared.Register.TheVariants.{Empty, Packet}
+use Rattle.state.specs.Register.{Register}
+use Rattle.std.specs.Prelude.{Some, None}
 use Rattle.state.specs.Layout.{register_size, router_size, flow_place}
 use Rattle.state.specs.Inner.{most_routers, flow_of}
 use Rattle.state.specs.State.{tally_at, cell_at}

@@ -17,8 +17,7 @@ use Rattle.flow.specs.declared.Flow.{Flow}
 use Rattle.flow.specs.Plan.{Plan, flow_at}
 use Rattle.flow.specs.Limits.{most_waiting, step_number}
 use Rattle.bucket.proofs.Regulator.{cycle_fits}
-use Rattle.plan.specs.declared.Answer.{Answer}
-use Rattle.plan.specs.declared.Answer.TheVariants.{Done}
+use Rattle.refusal.specs.Answer.{Answer, Done}
 use Rattle.place.specs.Place.{Place, W, N, column_of, row_of}
 use Rattle.router.specs.Links.{Output, feeder}
 use Rattle.router.specs.Rule.{via}
@@ -27,8 +26,8 @@ use Rattle.router.proofs.Links.{feeder_on, reach_feeder}
 use Rattle.router.proofs.Limit.{every_row}
 use Rattle.router.proofs.Path.{OnPath, entered_before}
 use Rattle.router.proofs.InPlace.{path_in_place}
-use Rattle.state.specs.declared.Register.{Register}
-use Rattle.state.specs.declared.Register.TheVariants.{Empty, Packet}
+use Rattle.state.specs.Register.{Register}
+use Rattle.std.specs.Prelude.{Some, None}
 use Rattle.state.specs.declared.Tally.{Tally}
 use Rattle.state.specs.declared.Cell.{Cell}
 use Rattle.state.specs.State.{State, tally_at, cell_at}

@@ -20,8 +20,8 @@ use Rattle.flow.specs.Limits.{most_waiting, offer_number}
 use Rattle.flow.proofs.Limits.{offer_passes}
 use Rattle.bucket.specs.Regulator.{bucket_fits}
 use Rattle.place.specs.Place.{Place, W, N}
-use Rattle.state.specs.declared.Register.{Register}
-use Rattle.state.specs.declared.Register.TheVariants.{Empty, Packet}
+use Rattle.state.specs.Register.{Register}
+use Rattle.std.specs.Prelude.{Some, None}
 use Rattle.state.specs.declared.Tally.{Tally}
 use Rattle.state.specs.Layout.{plan_size}
 use Rattle.state.specs.State.{State, tally_at, cell_at, fresh_tally}

@@ -6,7 +6,7 @@ use Prim.Native.Nat.{ℕ, ◌≤◌, ◌<◌}
 use borrow.Author.Tests.{lt-ltb, le-ltb}
 use lib.ListN.{length}
 use Rattle.laws.proofs.Bounded.{get_d_tabulate}
-use Rattle.plan.specs.declared.Answer.TheVariants.{Done}
+use Rattle.refusal.specs.Answer.{Done}
 use Rattle.router.specs.Reasons.{list_number}
 use Rattle.router.proofs.Reasons.{entered_word}
 use Rattle.state.specs.declared.Tally.{Tally}

@@ -13,8 +13,8 @@ use Rattle.flow.specs.Offsets.{port_of, same_port}
 use Rattle.flow.specs.Plan.{Plan, flow_at}
 use Rattle.router.specs.Rule.{Seen, no_packet, turns_south, Way, via, leave, same_way, at_home, way_by, takes, is_open}
 use Rattle.router.proofs.Entrant.{Found, no_entrant, has_entrant, found, ready_parts}
-use Rattle.state.specs.declared.Register.{Register}
-use Rattle.state.specs.declared.Register.TheVariants.{Empty, Packet}
+use Rattle.state.specs.Register.{Register}
+use Rattle.std.specs.Prelude.{Some, None}
 use Rattle.state.specs.State.{State, cell_at}
 use Rattle.cycle.specs.Seen.{shown, seen, view}
 use Rattle.cycle.specs.Step.{entering, sends_by, sent_by, carried, leaving, delivered}

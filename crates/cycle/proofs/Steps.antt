@@ -9,8 +9,7 @@ use lib.Seq.{take_at, drop_at}
 use Rattle.laws.specs.Turns.{turns}
 use Rattle.flow.specs.Limits.{exit_size, most_delivered, used_room}
 use Rattle.flow.proofs.Limits.{used_length}
-use Rattle.plan.specs.declared.Answer.{Answer}
-use Rattle.plan.specs.declared.Answer.TheVariants.{Done}
+use Rattle.refusal.specs.Answer.{Answer, Done}
 use Rattle.router.specs.Delivery.{words_of}
 use Rattle.router.proofs.Delivery.{words_append, words_length}
 use Rattle.state.specs.State.{State}

@@ -2,8 +2,7 @@
 use Rattle.std.specs.Prelude.{List, ℕ, ◌+◌, set}
 use Rattle.flow.specs.declared.Offerer.{Offerer}
 use Rattle.flow.specs.Limits.{offer_number}
-use Rattle.plan.specs.declared.Answer.{Answer}
-use Rattle.plan.specs.declared.Answer.TheVariants.{Done}
+use Rattle.refusal.specs.Answer.{Answer, Done}
 use Rattle.state.specs.declared.Tally.{Tally}
 use Rattle.state.specs.State.{State, tally_at}
 use Rattle.state.specs.Words.{state_words}

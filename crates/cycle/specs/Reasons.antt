@@ -1,7 +1,7 @@
 -- A step that also tells why each flow didn't enter (02, U7). Answer, state and deliveries are those of `step_on`.
 use Rattle.std.specs.Prelude.{List, ◌≡◌, ℕ, ◌+◌, ◌<◌, eqb, length, get_or}
 use Rattle.laws.specs.Count.{one}
-use Rattle.plan.specs.declared.Answer.{Answer}
+use Rattle.refusal.specs.Answer.{Answer}
 use Rattle.router.specs.Reasons.{reason_words, list_number}
 use Rattle.state.specs.State.{State, tally_at}
 use Rattle.state.specs.Read.{state_of}

@@ -5,14 +5,14 @@ use Rattle.flow.specs.declared.Flow.{Flow}
 use Rattle.flow.specs.Plan.{Plan, flow_at}
 use Rattle.router.specs.Rule.{Seen, View}
 use Rattle.router.specs.Rule as Rule
-use Rattle.state.specs.declared.Register.{Register}
-use Rattle.state.specs.declared.Register.TheVariants.{Empty, Packet}
+use Rattle.state.specs.Register.{Register}
+use Rattle.std.specs.Prelude.{Some, None}
 use Rattle.state.specs.State.{State, tally_at, cell_at}
 
 -- the flow of the packet in a register, where there is one
 abbrev pub shown : Plan → Register → Option Flow
-shown p Empty = none
-shown p (Packet flow serial entry deflections) = some (flow_at p flow)
+shown p None = none
+shown p (Some packet) = some (flow_at p packet.flow)
 
 -- what the router in column x and row y sees
 abbrev pub seen : State → (x y : ℕ) → Seen

@@ -7,25 +7,25 @@ use Rattle.flow.specs.declared.Port.TheVariants.{East, South}
 use Rattle.flow.specs.Offsets.{port_of, same_port}
 use Rattle.flow.specs.Plan.{Plan, flow_at}
 use Rattle.router.specs.Rule.{turns_south, at_home, entrant}
-use Rattle.state.specs.declared.Register.{Register}
-use Rattle.state.specs.declared.Register.TheVariants.{Empty, Packet}
+use Rattle.state.specs.Register.{Register}
+use Rattle.std.specs.Prelude.{Some, None}
 use Rattle.state.specs.State.{State, cell_at}
 use Rattle.cycle.specs.Seen.{shown, view}
 use Rattle.cycle.specs.Step.{deflected, entering}
 
 -- the deflections of a register's packet, where it holds one
 abbrev pub deflections_of : Register → ℕ
-deflections_of Empty = 0
-deflections_of (Packet flow serial entry deflections) = deflections
+deflections_of None = 0
+deflections_of (Some packet) = packet.deflections
 
 abbrev pub is_empty : Register → Bool
-is_empty Empty = true
-is_empty (Packet flow serial entry deflections) = false
+is_empty None = true
+is_empty (Some packet) = false
 
 -- the packet of r, or else the other one
 abbrev pub or_else : (r other : Register) → Register
-or_else Empty other = other
-or_else (Packet flow serial entry deflections) other = Packet flow serial entry deflections
+or_else None other = other
+or_else (Some packet) other = Some packet
 
 -- what goes E and what goes S, by whether the W packet goes S
 abbrev pub sent_east : (turning : Bool) → (west north client : Register) → Register
@@ -36,8 +36,8 @@ sent_south turning west north client = cond turning west (or_else north client)
 
 -- the packet that enters by a port, by the flow that enters there
 unfoldable pub entering_by : State → Port → Option ℕ → Register
-entering_by s port none = Empty
-entering_by s port (some f) = cond (same_port (port_of s.plan.sx (flow_at s.plan f)) port) (entering s f) Empty
+entering_by s port none = None
+entering_by s port (some f) = cond (same_port (port_of s.plan.sx (flow_at s.plan f)) port) (entering s f) None
 
 -- what the router in column x and row y sends E, and what it sends S or delivers
 unfoldable pub eastward : State → (x y : ℕ) → Register
@@ -52,5 +52,5 @@ southward s x y =
 
 -- a packet that goes S from the router in column x and row y exits there
 unfoldable pub exits : Plan → (x y : ℕ) → Register → Bool
-exits p x y Empty = false
-exits p x y (Packet flow serial entry deflections) = at_home x y (flow_at p flow)
+exits p x y None = false
+exits p x y (Some packet) = at_home x y (flow_at p packet.flow)

@@ -1,8 +1,7 @@
 -- An offer that names a set of flows as a list of numbers: every packet in it is accepted or none is (02, U4).
 use Rattle.std.specs.Prelude.{List, ℕ, length, get_or}
 use Rattle.laws.specs.Turns.{turns}
-use Rattle.plan.specs.declared.Answer.{Answer}
-use Rattle.plan.specs.declared.Answer.TheVariants.{Done}
+use Rattle.refusal.specs.Answer.{Answer, Done}
 use Rattle.plan.specs.Set.{set_number, set_answer}
 use Rattle.state.specs.State.{State, tally_at}
 use Rattle.state.specs.Words.{state_words}

@@ -9,14 +9,13 @@ use Rattle.flow.specs.declared.Flow.{Flow}
 use Rattle.flow.specs.Plan.{flow_at}
 use Rattle.flow.specs.Limits.{step_number}
 use Rattle.bucket.specs.Regulator.{after_cycle}
-use Rattle.plan.specs.declared.Answer.{Answer}
-use Rattle.plan.specs.declared.Answer.TheVariants.{Done}
+use Rattle.refusal.specs.Answer.{Answer, Done}
 use Rattle.place.specs.Place.{Place, W, N}
 use Rattle.router.specs.Links.{Output, feeder}
 use Rattle.router.specs.Rule.{Seen, deflects, Way, via, leave, same_way, takes, entrant, way_in}
 use Rattle.router.specs.Delivery.{Delivery, delivery_with, words_of}
-use Rattle.state.specs.declared.Register.{Register}
-use Rattle.state.specs.declared.Register.TheVariants.{Empty, Packet}
+use Rattle.state.specs.Register.{Register, packet_with}
+use Rattle.std.specs.Prelude.{Some, None}
 use Rattle.state.specs.declared.Tally.{Tally}
 use Rattle.state.specs.declared.Cell.{Cell}
 use Rattle.state.specs.State.{State, tally_at, cell_at}
@@ -28,20 +27,20 @@ use Rattle.cycle.specs.Seen.{seen, view, enters}
 
 -- one deflection more
 abbrev pub deflected : Register → Register
-deflected Empty = Empty
-deflected (Packet flow serial entry deflections) = Packet flow serial entry (deflections + 1)
+deflected None = None
+deflected (Some packet) = Some (packet_with packet.flow packet.serial packet.entry (packet.deflections + 1))
 
 abbrev pub onward : Bool → Register → Register
 onward deflects r = cond deflects (deflected r) r
 
 -- the packet that flow f enters: its next serial, D = 0, entry = clock
 abbrev pub entering : State → ℕ → Register
-entering s f = Packet f ((tally_at s f).entered + 1) s.clock 0
+entering s f = Some (packet_with f ((tally_at s f).entered + 1) s.clock 0)
 
 -- what a client sends by a way out, by the flow that enters there
 unfoldable pub sends_by : State → Way → Option ℕ → Register
-sends_by s o none = Empty
-sends_by s o (some f) = cond (same_way (way_in s.plan f) o) (entering s f) Empty
+sends_by s o none = None
+sends_by s o (some f) = cond (same_way (way_in s.plan f) o) (entering s f) None
 
 -- the packet that takes this way out of a router: that of W, of N, or the client's
 unfoldable pub sent_by : Seen → (x y : ℕ) → Way → (west north client : Register) → Register
@@ -86,8 +85,8 @@ step_state s =
 
 -- what a packet that exits in this cycle delivers
 abbrev pub leaving : (clock : ℕ) → Register → List Delivery
-leaving clock Empty = []
-leaving clock (Packet flow serial entry deflections) = delivery_with flow serial entry clock deflections ∷ []
+leaving clock None = []
+leaving clock (Some packet) = delivery_with packet.flow packet.serial packet.entry clock packet.deflections ∷ []
 
 -- what the router in column x and row y delivers
 unfoldable pub delivered : State → (x y : ℕ) → List Delivery

@@ -3,8 +3,7 @@
 use Rattle.std.specs.Prelude.{List, ◌++◌, ℕ, ◌+◌, ◌*◌, take, drop}
 use Rattle.laws.specs.Turns.{turns}
 use Rattle.flow.specs.Limits.{exit_size, most_delivered}
-use Rattle.plan.specs.declared.Answer.{Answer}
-use Rattle.plan.specs.declared.Answer.TheVariants.{Done, Refused}
+use Rattle.refusal.specs.Answer.{Answer, Done, Refused}
 use Rattle.state.specs.Outcome.{Outcome, outcome, Lent, lent, unless_refused}
 use Rattle.cycle.specs.Step.{step_on}
 

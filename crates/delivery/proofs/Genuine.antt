@@ -9,12 +9,12 @@ use lib.ListN.{length, take}
 use lib.Seq.{take_at}
 use Rattle.laws.proofs.Count.{mem_join}
 use Rattle.flow.specs.Limits.{exit_size}
-use Rattle.plan.specs.declared.Answer.TheVariants.{Done}
+use Rattle.refusal.specs.Answer.{Done}
 use Rattle.router.specs.Rule.{leave}
 use Rattle.router.specs.Delivery.{Delivery, words_of}
 use Rattle.router.proofs.Delivery.{words_length}
-use Rattle.state.specs.declared.Register.{Register}
-use Rattle.state.specs.declared.Register.TheVariants.{Empty, Packet}
+use Rattle.state.specs.Register.{Register}
+use Rattle.std.specs.Prelude.{Some, None}
 use Rattle.state.specs.State.{State}
 use Rattle.state.specs.Read.{state_of}
 use Rattle.state.proofs.Formed.{StateOk}

@@ -5,12 +5,12 @@ ghost use Rattle.std.specs.Prelude.{◌≡◌, ◌≤◌};
 ghost use Rattle.laws.specs.Count.{any};
 ghost use Rattle.flow.specs.Plan.{most_size};
 ghost use Rattle.flow.specs.Ranges.{FlowOk};
-ghost use Rattle.state.specs.Facts.{StateFacts};
 ghost use Rattle.state.specs.Read.{plan_in};
 ghost use Rattle.delivery.specs.Groups.{group_at, groups_of, impossible, strange};
-ghost use Rattle.delivery.specs.Inner.{HasGroup, StateGroup, trip_of};
+ghost use Rattle.delivery.specs.Inner.{HasGroup, trip_of};
 
 use flow::Flow;
+use state::StateWords;
 
 // The entry cycle, exit cycle and deflections of a delivery.
 #[derive(Clone, Copy)]
@@ -49,24 +49,20 @@ fn impossible(sx: u32, sy: u32, f: Flow, entry: u32, exit: u32, d: u32) -> bool
 }
 
 // Group i is of no flow in the plan, or is impossible for its flow.
-fn strange(state: &[u32], deliveries: &[u32], i: usize) -> bool
-    requires { StateGroup state.now deliveries.now i }
+fn strange(state: &StateWords, deliveries: &[u32], i: usize) -> bool
+    requires { HasGroup deliveries.now i }
     ensures { result ≡ strange (plan_in state.now) (group_at deliveries.now i) }
 {
     let flow = deliveries[cycle::EXIT_SIZE * i];
-    if state[state::FLOWS] <= flow {
+    if state.flows() <= flow {
         return true;
     }
-    let sx = state[state::SX];
-    let sy = state[state::SY];
-    let f = cycle::flow_at(state, flow);
     let t = trip_at(deliveries, i);
-    impossible(sx, sy, f, t.entry, t.exit, t.deflections)
+    impossible(state.sx(), state.sy(), state.flow(flow), t.entry, t.exit, t.deflections)
 }
 
 // Some group is strange to the plan.
-pub fn any_strange(state: &[u32], deliveries: &[u32]) -> bool
-    requires { StateFacts state.now }
+pub fn any_strange(state: &StateWords, deliveries: &[u32]) -> bool
     ensures { result ≡ any (strange (plan_in state.now)) (groups_of deliveries.now) }
 {
     let n = deliveries.len() / cycle::EXIT_SIZE;

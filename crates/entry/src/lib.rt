@@ -9,50 +9,33 @@ ghost use Rattle.flow.specs.Ranges.{FlowOk};
 ghost use Rattle.flow.specs.Limits.{last_clock};
 ghost use Rattle.router.specs.Rule.{ready, is_flow};
 ghost use Rattle.state.specs.Read.{sx_in, sy_in, count_in, state_of};
-ghost use Rattle.state.specs.Facts.{StateFacts, StateFlow};
 ghost use Rattle.state.specs.Tallied.{tallied};
 ghost use Rattle.cycle.specs.Seen.{view};
 ghost use Rattle.cycle.specs.Step.{next_tally};
 ghost use Rattle.entry.specs.Entrants.{port_open, tally_after, entrant_in, Entrants, AllEntered};
 
 use flow::{Flow, Port};
-use state::Tally;
+use state::{StateWords, Tally};
 
 // The flow's port at its client's router is open.
-pub fn port_open(state: &[u32], flow: Flow) -> bool
-    requires state_facts { StateFacts state.now }
-    requires flow_ok { FlowOk (sx_in state.now) (sy_in state.now) flow }
+pub fn port_open(state: &StateWords, flow: Flow) -> bool
+    requires { FlowOk (sx_in state.now) (sy_in state.now) flow }
     ensures { result ≡ port_open (state_of state.now) flow }
 {
-    let cell = cycle::cell_at(state, flow.xs, flow.ys);
-    let west = cell.west;
-    let north = cell.north;
-    let port = flow.port(state[state::SX]);
-    match port {
-        Port::East => cycle::is_empty(west),
-        Port::South => {
-            if !cycle::is_empty(north) {
-                return false;
-            }
-            !cycle::turns_south(state, flow.xs, west)
-        }
+    let cell = state.cell(flow.xs, flow.ys);
+    match flow.port(state.sx()) {
+        Port::East => cell.west.is_none(),
+        Port::South => cell.north.is_none() && !cycle::turns_south(state, flow.xs, cell.west),
     }
 }
 
 // Flow f has a waiting packet, a token and an open port.
-fn ready(state: &[u32], f: u32) -> bool
-    requires { StateFlow state.now f }
+fn ready(state: &StateWords, f: u32) -> bool
+    requires { f < count_in state.now }
     ensures { result ≡ ready (state_of state.now).plan (view (state_of state.now)) f }
 {
-    let t = cycle::tally_at(state, f);
-    if t.waiting < 1 {
-        return false;
-    }
-    let bucket = t.bucket;
-    if bucket.tokens < 1 {
-        return false;
-    }
-    port_open(state, cycle::flow_at(state, f))
+    let t = state.tally(f);
+    0 < t.waiting && 0 < t.bucket.tokens && port_open(state, state.flow(f))
 }
 
 // A flow's tally after a cycle.
@@ -61,34 +44,30 @@ fn tally_after(flow: Flow, t: Tally, enters: bool) -> Tally
     requires le_tokens { enters ≡ true → (1 ≤ t.bucket.tokens) × (1 ≤ t.waiting) }
     ensures { result ≡ tally_after flow t enters }
 {
-    let old = t.bucket;
     if enters {
-        let bucket = old.spend().count(flow.burst, flow.period);
         return Tally {
-            bucket,
+            bucket: t.bucket.spend().count(flow.burst, flow.period),
             entered: t.entered + 1,
             waiting: t.waiting - 1,
         };
     }
-    let bucket = old.count(flow.burst, flow.period);
     Tally {
-        bucket,
-        entered: t.entered,
-        waiting: t.waiting,
+        bucket: t.bucket.count(flow.burst, flow.period),
+        ..t
     }
 }
 
 // Flow f's turn: if it enters, with the entrants of the flows below it, it is its client's entrant.
-pub fn enter(state: &[u32], f: u32, entrants: &mut [u32])
-    requires state_flow { StateFlow state.now f }
+pub fn enter(state: &StateWords, f: u32, entrants: &mut [u32])
+    requires f_below { f < count_in state.now }
     requires entrants { Entrants (state_of state.now) f entrants.old }
     ensures { Entrants (state_of state.now) (f + 1) entrants.new }
 {
     if !ready(state, f) {
         return;
     }
-    let flow = cycle::flow_at(state, f);
-    let client = state::router_index(state[state::SX], flow.xs, flow.ys);
+    let flow = state.flow(f);
+    let client = state::router_index(state.sx(), flow.xs, flow.ys);
     if entrants[client] != 0 {
         return;
     }
@@ -96,13 +75,11 @@ pub fn enter(state: &[u32], f: u32, entrants: &mut [u32])
 }
 
 // The entrants of all clients.
-pub fn find_entrants(state: &[u32], entrants: &mut [u32])
-    requires state_facts { StateFacts state.now }
-    requires entrants { Entrants (state_of state.now) 0 entrants.old }
+pub fn find_entrants(state: &StateWords, entrants: &mut [u32])
+    requires { Entrants (state_of state.now) 0 entrants.old }
     ensures { Entrants (state_of state.now) (count_in state.now) entrants.new }
 {
-    let flows = state[state::FLOWS];
-    for f in 0..flows {
+    for f in 0..state.flows() {
         enter(state, f, entrants);
     }
 }

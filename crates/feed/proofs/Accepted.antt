@@ -15,8 +15,7 @@ use Rattle.laws.proofs.Count.{none_below}
 use Rattle.flow.specs.Plan.{Plan}
 use Rattle.flow.specs.Limits.{exit_size}
 use Rattle.flight.proofs.Flight.{flight_most}
-use Rattle.plan.specs.declared.Answer.{Answer}
-use Rattle.plan.specs.declared.Answer.TheVariants.{Done}
+use Rattle.refusal.specs.Answer.{Answer, Done}
 use Rattle.plan.specs.Refusals.{answer_by}
 use Rattle.router.specs.Delivery.{Delivery}
 use Rattle.state.specs.Read.{sx_in, sy_in, count_in, plan_in, state_of}

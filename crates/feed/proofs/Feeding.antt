@@ -10,8 +10,7 @@ use Rattle.laws.proofs.Cases.{never, or_false}
 use Rattle.laws.proofs.Count.{any_true, any_append}
 use Rattle.flow.specs.Plan.{Plan}
 use Rattle.flow.specs.Limits.{used_room}
-use Rattle.plan.specs.declared.Answer.{Answer}
-use Rattle.plan.specs.declared.Answer.TheVariants.{Done}
+use Rattle.refusal.specs.Answer.{Answer, Done}
 use Rattle.router.specs.Delivery.{Delivery, words_of}
 use Rattle.state.specs.State.{State}
 use Rattle.state.specs.Read.{plan_in, state_of}

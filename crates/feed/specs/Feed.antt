@@ -3,8 +3,7 @@ use Rattle.std.specs.Prelude.{cond, not, ◌&&◌, List, [], ◌∷◌, ℕ, ltb
 use Rattle.laws.specs.Count.{any}
 use Rattle.flow.specs.Plan.{Plan}
 use Rattle.flight.specs.Flight.{flight}
-use Rattle.plan.specs.declared.Answer.{Answer}
-use Rattle.plan.specs.declared.Answer.TheVariants.{Done}
+use Rattle.refusal.specs.Answer.{Answer, Done}
 use Rattle.router.specs.Delivery.{Delivery}
 use Rattle.state.specs.Read.{plan_in}
 use Rattle.state.specs.Forms.{state_number}

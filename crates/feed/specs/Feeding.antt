@@ -1,7 +1,7 @@
 -- What feeding recent flights comes to: one by one as all at once, and always for what a step, or many in one call, delivered (02, U1).
 use Rattle.std.specs.Prelude.{List, [], ◌∷◌, ◌≡◌, ℕ, ◌*◌, ◌≤◌, length, take}
 use Rattle.flow.specs.Limits.{exit_size}
-use Rattle.plan.specs.declared.Answer.TheVariants.{Done}
+use Rattle.refusal.specs.Answer.{Done}
 use Rattle.router.specs.Delivery.{Delivery, words_of}
 use Rattle.state.specs.Read.{plan_in}
 use Rattle.cycle.specs.Step.{step_on}

@@ -2,8 +2,7 @@
 #![tactic(auto)]
 
 ghost use Rattle.std.specs.Prelude.{◌≡◌, length};
-ghost use Rattle.plan.specs.Refusals.{answer_by};
-ghost use Rattle.state.specs.Facts.{StateFacts};
+ghost use Rattle.refusal.specs.Answer.{told, number_in};
 ghost use Rattle.state.specs.Read.{plan_in};
 ghost use Rattle.state.specs.Outcome.{outcome};
 ghost use Rattle.delivery.specs.Groups.{group_at, groups_of};
@@ -11,59 +10,32 @@ ghost use Rattle.delivery.specs.Inner.{HasGroup};
 ghost use Rattle.feed.specs.Feed.{feed_number, feed_on};
 ghost use Rattle.feed.specs.Inner.{Keepable, Feedable, kept_with, fed_first, call_number, groups_fed};
 
-use plan::Answer;
 use recent::Recent;
+use refusal::{Cause, Refusal};
+use state::StateWords;
 
-// The refusal after the state's own, or 0.
+// What a call is refused for after the state's own.
 #[tactic(auto, using(state::proofs::View::view_count), unfolding(crate::specs::Feed::feed_number))]
-fn feed_number(state: &[u32], deliveries: &[u32], count: usize, last: u32) -> u32
-    requires { StateFacts state.now }
-    ensures { result ≡ feed_number (plan_in state.now) (groups_of deliveries.now) count last }
+fn check_records(state: &StateWords, deliveries: &[u32], count: usize, last: u32) -> Result<(), Cause>
+    ensures { number_in result ≡ feed_number (plan_in state.now) (groups_of deliveries.now) count last }
 {
-    if count < (state[state::FLOWS] as usize) {
-        return 16;
+    if count < (state.flows() as usize) {
+        return Err(Cause::RecordsShort);
     }
-    if last < 1 {
-        return 17;
-    }
-    if (recent::MOST_KEPT as u32) < last {
-        return 17;
+    if last < 1 || (recent::MOST_KEPT as u32) < last {
+        return Err(Cause::KeptRange);
     }
     if delivery::any_strange(state, deliveries) {
-        return 12;
+        return Err(Cause::NotInPlan);
     }
-    0
+    Ok(())
 }
 
-// The call's refusal, or 0.
-fn call_number(state: &[u32], deliveries: &[u32], count: usize, last: u32) -> u32
-    ensures { result ≡ call_number state.now deliveries.now count last }
+// What the call is refused for.
+fn check_call(state: &[u32], deliveries: &[u32], count: usize, last: u32) -> Result<(), Cause>
+    ensures { number_in result ≡ call_number state.now deliveries.now count last }
 {
-    let number = valid::state_number(state);
-    if number != 0 {
-        return number;
-    }
-    feed_number(state, deliveries, count, last)
-}
-
-// How many groups are fed: none where the call is refused.
-fn groups_fed(refusal: u32, deliveries: &[u32]) -> usize
-    ensures { result ≡ groups_fed refusal deliveries.now }
-{
-    if refusal != 0 {
-        return 0;
-    }
-    deliveries.len() / cycle::EXIT_SIZE
-}
-
-// The answer by the call's refusal, or 0.
-fn answer_by(number: u32) -> Answer
-    ensures { result ≡ answer_by number 0 }
-{
-    if number != 0 {
-        return Answer::Refused { number, place: 0 };
-    }
-    Answer::Done(0)
+    check_records(&valid::read_state(state)?, deliveries, count, last)
 }
 
 // The flow of group i.
@@ -98,13 +70,12 @@ fn feed_groups(records: &mut [Recent], deliveries: &[u32], n: usize, last: u32)
     }
 }
 
-// A step's deliveries, each at its flow's record of the last L: 0, or the refusal, before any record changes.
+// A step's deliveries, each at its flow's record of the last L; or the refusal, before any record changes.
 #[tactic(auto, using(crate::proofs::Accepted::feedable, crate::proofs::Accepted::fed_by_number))]
-pub fn feed(state: &[u32], deliveries: &[u32], records: &mut [Recent], last: u32) -> Answer
-    ensures { outcome result records.new ≡ feed_on state.now deliveries.now last records.old }
+pub fn feed(state: &[u32], deliveries: &[u32], records: &mut [Recent], last: u32) -> Result<(), Refusal>
+    ensures { outcome (told result) records.new ≡ feed_on state.now deliveries.now last records.old }
 {
-    let number = call_number(state, deliveries, records.len(), last);
-    let n = groups_fed(number, deliveries);
-    feed_groups(records, deliveries, n, last);
-    answer_by(number)
+    check_call(state, deliveries, records.len(), last)?;
+    feed_groups(records, deliveries, deliveries.len() / cycle::EXIT_SIZE, last);
+    Ok(())
 }

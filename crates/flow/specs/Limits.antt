@@ -2,7 +2,6 @@
 use Rattle.std.specs.Prelude.{cond, ℕ, ◌*◌, ltb, leb, eqb, length}
 use Rattle.flow.specs.declared.Offerer.{Offerer}
 use Rattle.flow.specs.declared.Offerer.TheVariants.{Sonar, Generator}
-use Rattle.flow.specs.declared.Limit.{Limit}
 use Rattle.flow.specs.Plan.{Plan}
 
 -- a flow's most waiting packets
@@ -36,6 +35,11 @@ most_delivered = exit_size * most_exits
 -- what they use of so many lent words
 unfoldable pub used_room : (room : ℕ) → ℕ
 used_room room = cond (ltb room most_delivered) room most_delivered
+
+-- an offer's limit: with so many packets of the flow waiting, it is refused with this number
+pub record Limit : Type 0 where
+  pub waiting : ℕ
+  pub number : ℕ
 
 -- an offer's limit: so many packets of the flow already waiting, and the number of its full queue. 13: 65,535 already waiting.
 -- 02, U6: the generator "gets its own offer call, which stops at 255 waiting in that flow, by either call; the sonar's call still stops

@@ -1,10 +1,13 @@
-// A flow's plan numbers, its offsets on the torus and its port; who offers packets, and the limits. Rests on laws and torus.
+// A flow's plan numbers, its offsets on the torus and its port; who offers packets, and the limits. Rests on laws, refusal and torus.
 #![tactic(auto)]
 
 ghost use Rattle.std.specs.Prelude.{◌≡◌, ◌≤◌, ◌<◌};
 ghost use Rattle.flow.specs.Offsets.{ΔX, ΔY, port_of, same_client};
 ghost use Rattle.flow.specs.Plan.{most_size, on_torus};
 ghost use Rattle.flow.specs.Limits.{limit_of};
+ghost use Rattle.refusal.specs.Cause.{cause_number};
+
+use refusal::Cause;
 
 // A flow's period is at most this.
 pub const MOST_PERIOD: u32 = 16777215;
@@ -16,7 +19,7 @@ pub const MOST_WAITING: u32 = 65535;
 pub const MOST_TRIAL: u32 = 255;
 
 // The six plan numbers of a flow, in record order: source, destination, period P and burst σ.
-#[derive(Clone, Copy)]
+#[derive(Clone, Copy, Debug, PartialEq, Eq)]
 pub struct Flow {
     pub xs: u32,
     pub ys: u32,
@@ -27,39 +30,37 @@ pub struct Flow {
 }
 
 // The router output by which a flow's packets enter.
-#[derive(Clone, Copy)]
+#[derive(Clone, Copy, Debug, PartialEq, Eq)]
 pub enum Port {
     East,
     South,
 }
 
 // Who offers a packet: the sonar, or the trial generator.
-#[derive(Clone, Copy)]
+#[derive(Clone, Copy, Debug, PartialEq, Eq)]
 pub enum Offerer {
     Sonar,
     Generator,
 }
 
-// An offer's limit: with so many packets of the flow waiting, it is refused with this number.
-#[derive(Clone, Copy)]
-pub struct Limit {
-    pub waiting: u32,
-    pub number: u32,
-}
-
 impl Offerer {
-    pub fn limit(self) -> Limit
-        ensures { result ≡ limit_of self }
+    // So many waiting packets of a flow refuse its next offer.
+    pub fn most_waiting(self) -> u32
+        ensures { result ≡ (limit_of self).waiting }
     {
         match self {
-            Offerer::Sonar => Limit {
-                waiting: MOST_WAITING,
-                number: 13,
-            },
-            Offerer::Generator => Limit {
-                waiting: MOST_TRIAL,
-                number: 18,
-            },
+            Offerer::Sonar => MOST_WAITING,
+            Offerer::Generator => MOST_TRIAL,
+        }
+    }
+
+    // What its offer is refused for then.
+    pub fn full_queue(self) -> Cause
+        ensures { cause_number result ≡ (limit_of self).number }
+    {
+        match self {
+            Offerer::Sonar => Cause::QueueFull,
+            Offerer::Generator => Cause::TrialFull,
         }
     }
 }
@@ -69,16 +70,7 @@ impl Flow {
     pub fn on_torus(self, sx: u32, sy: u32) -> bool
         ensures { result ≡ on_torus sx sy self }
     {
-        if sx <= self.xs {
-            return false;
-        }
-        if sy <= self.ys {
-            return false;
-        }
-        if sx <= self.xd {
-            return false;
-        }
-        self.yd < sy
+        self.xs < sx && self.ys < sy && self.xd < sx && self.yd < sy
     }
 
     // ΔX = (xd − xs) mod Sx. With Sx more, the difference doesn't pass below 0.
@@ -104,20 +96,17 @@ impl Flow {
         requires sx_le_most_size { sx ≤ most_size }
         ensures { result ≡ port_of sx self }
     {
-        let dx = self.offset_x(sx);
-        if 0 < dx {
-            return Port::East;
+        if 0 < self.offset_x(sx) {
+            Port::East
+        } else {
+            Port::South
         }
-        Port::South
     }
 
     // Whether two flows have one client.
     pub fn same_client(self, other: Flow) -> bool
         ensures { result ≡ same_client self other }
     {
-        if self.xs != other.xs {
-            return false;
-        }
-        self.ys == other.ys
+        self.xs == other.xs && self.ys == other.ys
     }
 }

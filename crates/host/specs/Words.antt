@@ -1,7 +1,6 @@
 -- An answer as one number for C (01, When a call says no, at the end).
 use Rattle.std.specs.Prelude.{List, ℕ, ◌+◌, ◌*◌, length}
-use Rattle.plan.specs.declared.Answer.{Answer}
-use Rattle.plan.specs.declared.Answer.TheVariants.{Done, Refused}
+use Rattle.refusal.specs.Answer.{Answer, Done, Refused}
 use Rattle.plan.specs.Refusals.{refused_or, plan_answer}
 use Rattle.plan.specs.Notes.{notes_of}
 use Rattle.state.specs.Outcome.{Outcome, outcome}

@@ -6,6 +6,8 @@ ghost use Rattle.bounds.specs.Bounds.{window_answer, burst_answer, flight_bound_
 ghost use Rattle.bounds.specs.Inner.{NumberMost};
 ghost use Rattle.flow.specs.declared.Offerer.TheVariants.{Sonar, Generator};
 ghost use Rattle.host.specs.Words.{window_word, answer_word, notes_answer, in_words};
+ghost use Rattle.refusal.specs.Answer.{Refused, told, told_value};
+ghost use Rattle.refusal.specs.Cause.{cause_number};
 ghost use Rattle.state.specs.Outcome.{outcome, lent};
 ghost use Rattle.state.specs.Reset.{reset_on};
 ghost use Rattle.state.specs.Writing.{write_on};
@@ -17,28 +19,39 @@ ghost use Rattle.cycle.specs.Reasons.{telling, step_reasons_on};
 ghost use Rattle.feed.specs.Feed.{feed_on};
 
 use flow::Offerer;
-use plan::Answer;
 use recent::Recent;
+use refusal::Refusal;
 
 // The window call's answer as a number.
-fn window_word(a: Answer) -> u32
-    requires { NumberMost 14 a }
-    ensures { result ≡ window_word a }
+fn window_word(a: Result<u32, Refusal>) -> u32
+    requires { NumberMost 14 (told_value a) }
+    ensures { result ≡ window_word (told_value a) }
 {
-    match a {
-        Answer::Done(v) => v,
-        Answer::Refused { number, place: _ } => 65536 + number,
-    }
+    a.unwrap_or_else(|e| 65536 + e.cause.number())
+}
+
+// A refusal as a number.
+fn refusal_word(e: Refusal) -> u64
+    ensures { result ≡ answer_word (Refused (cause_number e.cause) e.place) }
+{
+    (e.cause.number() as u64) * 4294967296 + (e.place as u64)
 }
 
 // Any other call's answer as a number.
-fn answer_word(a: Answer) -> u64
-    ensures { result ≡ answer_word a }
+fn value_word(a: Result<u32, Refusal>) -> u64
+    ensures { result ≡ answer_word (told_value a) }
 {
     match a {
-        Answer::Done(v) => v as u64,
-        Answer::Refused { number, place } => (number as u64) * 4294967296 + (place as u64),
+        Ok(v) => v as u64,
+        Err(e) => refusal_word(e),
     }
+}
+
+// The answer of a call that has no value.
+fn answer_word(a: Result<(), Refusal>) -> u64
+    ensures { result ≡ answer_word (told a) }
+{
+    value_word(a.map(|_| 0))
 }
 
 // T of a flow, or 65,536 + the refusal number.
@@ -55,7 +68,7 @@ pub extern "C" fn hrt_window(plan: &[u8], flow: u32) -> u32
 pub extern "C" fn hrt_burst(plan: &[u8], flow: u32, packets: u32) -> u64
     ensures { result ≡ answer_word (burst_answer plan.now flow packets) }
 {
-    answer_word(bounds::burst(plan, flow, packets))
+    value_word(bounds::burst(plan, flow, packets))
 }
 
 // The flight bound of a flow.
@@ -63,7 +76,7 @@ pub extern "C" fn hrt_burst(plan: &[u8], flow: u32, packets: u32) -> u64
 pub extern "C" fn hrt_flight(plan: &[u8], flow: u32) -> u64
     ensures { result ≡ answer_word (flight_bound_answer plan.now flow) }
 {
-    answer_word(bounds::flight_bound(plan, flow))
+    value_word(bounds::flight_bound(plan, flow))
 }
 
 // The length of the notes, the leading part of the file.
@@ -72,10 +85,7 @@ pub extern "C" fn hrt_flight(plan: &[u8], flow: u32) -> u64
 pub extern "C" fn hrt_notes(plan: &[u8]) -> u64
     ensures { result ≡ answer_word (notes_answer plan.now) }
 {
-    match plan::plan_answer(plan) {
-        Answer::Refused { number, place } => answer_word(Answer::Refused { number, place }),
-        Answer::Done(_) => plan::notes(plan).len() as u64,
-    }
+    value_word(plan::plan_answer(plan).map(|_| plan::notes(plan).len() as u32))
 }
 
 // A state from a plan file.
@@ -91,7 +101,7 @@ pub extern "C" fn hrt_reset(plan: &[u8], state: &mut [u32]) -> u64
 pub extern "C" fn hrt_write(state: &[u32], notes: &[u8], target: &mut [u8]) -> u64
     ensures { outcome result target.new ≡ in_words (write_on state.now notes.now target.old) }
 {
-    answer_word(writing::write(state, notes, target))
+    value_word(writing::write(state, notes, target))
 }
 
 // One packet of a flow.
@@ -123,7 +133,7 @@ pub extern "C" fn hrt_offer_set(state: &mut [u32], flows: &[u32]) -> u64
 pub extern "C" fn hrt_step(state: &mut [u32], delivery: &mut [u32]) -> u64
     ensures { outcome result (lent state.new delivery.new) ≡ in_words (step_on state.old delivery.old) }
 {
-    answer_word(step::step(state, delivery))
+    value_word(step::step(state, delivery))
 }
 
 // So many cycles, each step delivering behind the last, and all their exits.
@@ -131,7 +141,7 @@ pub extern "C" fn hrt_step(state: &mut [u32], delivery: &mut [u32]) -> u64
 pub extern "C" fn hrt_steps(state: &mut [u32], delivery: &mut [u32], cycles: u32) -> u64
     ensures { outcome result (lent state.new delivery.new) ≡ in_words (steps_on state.old delivery.old cycles) }
 {
-    answer_word(steps::steps(state, delivery, cycles))
+    value_word(steps::steps(state, delivery, cycles))
 }
 
 // One cycle, its exits, and why each flow didn't enter.
@@ -144,7 +154,7 @@ pub extern "C" fn hrt_step_reasons(
     ensures { outcome result (telling (lent state.new delivery.new) reasons.new)
         ≡ in_words (step_reasons_on state.old delivery.old reasons.old) }
 {
-    answer_word(telling::step_reasons(state, delivery, reasons))
+    value_word(telling::step_reasons(state, delivery, reasons))
 }
 
 // A step's deliveries, each at its flow's record of the last L.

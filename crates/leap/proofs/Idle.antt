@@ -28,7 +28,7 @@ use Rattle.router.specs.Rule.{Seen, Way, via, leave, taken_by, takes, ready, ent
 use Rattle.router.specs.Rule as Rule
 use Rattle.router.proofs.Links.{feeder_on}
 use Rattle.router.proofs.Entrant.{Found, no_entrant, has_entrant, found, ready_parts}
-use Rattle.state.specs.declared.Register.TheVariants.{Empty}
+use Rattle.std.specs.Prelude.{None}
 use Rattle.state.specs.declared.Tally.{Tally}
 use Rattle.state.specs.State.{State, tally_at, fresh_tally, empty_cell}
 use Rattle.state.specs.Forms.{tally_fits}

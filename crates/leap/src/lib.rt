@@ -12,17 +12,17 @@ ghost use Rattle.state.specs.Tallied.{tallied};
 ghost use Rattle.leap.specs.Leap.{passed_tally, passed_at, Vacant, StaysOut, AllStayOut, Leapt};
 
 use flow::Flow;
-use state::Tally;
+use state::{StateWords, Tally};
 
 // True only where nothing is in flight.
-fn is_vacant(state: &[u32]) -> bool
-    requires { StateFacts state.now }
+fn is_vacant(state: &StateWords) -> bool
     ensures { result ≡ true → Vacant (state_of state.now) }
 {
-    let registers = 2 * ((state[state::SX] * state[state::SY]) as usize);
-    let at = state::flow_place(state[state::FLOWS] as usize);
+    let registers = 2 * ((state.sx() * state.sy()) as usize);
+    let at = state::flow_place(state.flows() as usize);
+    let words = state.words();
     for i in 0..registers {
-        if state[at + state::REGISTER_SIZE * i] != 0 {
+        if words[at + state::REGISTER_SIZE * i] != 0 {
             return false;
         }
     }
@@ -37,27 +37,19 @@ fn stays_out(flow: Flow, t: Tally, most: u32) -> u32
     if t.waiting == 0 {
         return most;
     }
-    let bucket = t.bucket;
-    if 0 < bucket.tokens {
+    if 0 < t.bucket.tokens {
         return 0;
     }
-    let left = flow.period - bucket.count;
-    if left < most {
-        return left;
-    }
-    most
+    most.min(flow.period - t.bucket.count)
 }
 
 // For how many cycles, at most so many, surely no flow enters.
-fn all_stay_out(state: &[u32], most: u32) -> u32
-    requires { StateFacts state.now }
+fn all_stay_out(state: &StateWords, most: u32) -> u32
     ensures { (result ≤ most) × (1 ≤ result → AllStayOut result (state_of state.now) (count_in state.now)) }
 {
-    let flows = state[state::FLOWS];
     let mut k = most;
-    for f in 0..flows {
-        let at = state::flow_place(f as usize);
-        k = stays_out(state::flow_in(state, at), state::tally_in(state, at), k);
+    for f in 0..state.flows() {
+        k = stays_out(state.flow(f), state.tally(f), k);
         if k == 0 {
             return 0;
         }
@@ -70,11 +62,9 @@ fn passed_tally(k: u32, flow: Flow, t: Tally) -> Tally
     requires { 1 ≤ flow.period }
     ensures { result ≡ passed_tally k flow t }
 {
-    let bucket = t.bucket;
     Tally {
-        bucket: bucket.pass(flow.burst, flow.period, k),
-        entered: t.entered,
-        waiting: t.waiting,
+        bucket: t.bucket.pass(flow.burst, flow.period, k),
+        ..t
     }
 }
 
@@ -92,27 +82,17 @@ fn pass_flows(state: &mut [u32], k: u32)
     }
 }
 
-// The lesser of two numbers.
-fn least(a: u32, b: u32) -> u32
-    ensures { (result ≤ a) × (result ≤ b) }
-{
-    if a < b {
-        return a;
-    }
-    b
-}
-
 // A leap of at most so many cycles, to the next token of a waiting flow or to the last clock: how many it took.
 fn leap(state: &mut [u32], most: u32) -> u32
     requires { StateFacts state.old }
     ensures { Leapt state.old most result state.new }
 {
-    if !is_vacant(state) {
+    let now = StateWords::of(state);
+    if !is_vacant(&now) {
         return 0;
     }
-    let clock = state[state::CLOCK];
-    let last = state::LAST_CLOCK - clock;
-    let k = all_stay_out(state, least(last, most));
+    let clock = now.clock();
+    let k = all_stay_out(&now, most.min(state::LAST_CLOCK - clock));
     if k == 0 {
         return 0;
     }

@@ -2,30 +2,27 @@
 #![tactic(auto)]
 
 ghost use Rattle.std.specs.Prelude.{◌≡◌};
+ghost use Rattle.refusal.specs.Answer.{told, number_in};
 ghost use Rattle.flow.specs.Limits.{offer_number};
 ghost use Rattle.state.specs.Words.{state_words};
 ghost use Rattle.state.specs.Read.{state_of};
 ghost use Rattle.state.specs.Outcome.{outcome, over};
 ghost use Rattle.state.specs.State.{tally_at};
-ghost use Rattle.state.specs.Facts.{StateFacts, StateFlow};
+ghost use Rattle.state.specs.Facts.{StateFlow};
 ghost use Rattle.cycle.specs.Offer.{with_waiting, offer_state, offer_on};
 
 use flow::Offerer;
-use plan::Answer;
-use state::Tally;
+use refusal::{Cause, Refusal};
+use state::{StateWords, Tally};
 
 // So many packets of flow f wait.
 pub fn put_waiting(state: &mut [u32], f: u32, waiting: u32)
     requires { StateFlow state.old f }
     ensures { state.new ≡ over (state_words (with_waiting (state_of state.old) f waiting)) state.old }
 {
-    let t = cycle::tally_at(state, f);
-    let bucket = t.bucket;
-    let entered = t.entered;
     let tally = Tally {
-        bucket,
-        entered,
         waiting,
+        ..StateWords::of(state).tally(f)
     };
     state::put_tally(state, state::flow_place(f as usize), tally);
 }
@@ -35,41 +32,29 @@ pub fn wait_more(state: &mut [u32], f: u32)
     requires { StateFlow state.old f }
     ensures { state.new ≡ over (state_words (offer_state (state_of state.old) f)) state.old }
 {
-    let t = cycle::tally_at(state, f);
-    put_waiting(state, f, t.waiting + 1);
+    let waiting = StateWords::of(state).tally(f).waiting;
+    put_waiting(state, f, waiting + 1);
 }
 
-// The refusal of an offer after the state's own, or 0.
-pub fn offer_number(who: Offerer, state: &[u32], f: u32) -> u32
-    requires { StateFacts state.now }
-    ensures { result ≡ offer_number who (state_of state.now).plan f (tally_at (state_of state.now) f).waiting }
+// What an offer is refused for after the state's own.
+pub fn check_offer(who: Offerer, state: &StateWords, f: u32) -> Result<(), Cause>
+    ensures { number_in result ≡ offer_number who (state_of state.now).plan f (tally_at (state_of state.now) f).waiting }
 {
-    let limit = who.limit();
-    if state[state::FLOWS] <= f {
-        return 12;
+    if state.flows() <= f {
+        return Err(Cause::NotInPlan);
     }
-    let t = cycle::tally_at(state, f);
-    if limit.waiting <= t.waiting {
-        return limit.number;
+    if who.most_waiting() <= state.tally(f).waiting {
+        return Err(who.full_queue());
     }
-    0
+    Ok(())
 }
 
-// An offer of one packet to a flow: 0, or the refusal.
-pub fn offer(who: Offerer, state: &mut [u32], flow: u32) -> Answer
-    ensures { outcome result state.new ≡ offer_on who state.old flow }
+// An offer of one packet to a flow, or its refusal.
+pub fn offer(who: Offerer, state: &mut [u32], flow: u32) -> Result<(), Refusal>
+    ensures { outcome (told result) state.new ≡ offer_on who state.old flow }
 {
-    let number = valid::state_number(state);
-    if number != 0 {
-        return Answer::Refused { number, place: 0 };
-    }
-    let other = offer_number(who, state, flow);
-    if other != 0 {
-        return Answer::Refused {
-            number: other,
-            place: 0,
-        };
-    }
+    valid::check_state(state)?;
+    check_offer(who, &StateWords::of(state), flow)?;
     wait_more(state, flow);
-    Answer::Done(0)
+    Ok(())
 }

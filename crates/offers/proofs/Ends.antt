@@ -4,7 +4,7 @@ use mathlib.Core.List.{List}
 use mathlib.Core.Path.{◌≡◌}
 use Prim.Native.Nat.{ℕ, ◌<◌}
 use lib.ListN.{length}
-use Rattle.plan.specs.declared.Answer.TheVariants.{Done, Refused}
+use Rattle.refusal.specs.Answer.{Done, Refused}
 use Rattle.plan.proofs.Refusals.{first_all, first_at}
 use Rattle.state.specs.Read.{state_of}
 use Rattle.state.specs.Forms.{state_number}

@@ -9,8 +9,7 @@ use lib.ListN.{length, get_or}
 use Rattle.laws.specs.Turns.{turns}
 use Rattle.flow.specs.declared.Offerer.TheVariants.{Sonar}
 use Rattle.flow.specs.Limits.{offer_number}
-use Rattle.plan.specs.declared.Answer.{Answer}
-use Rattle.plan.specs.declared.Answer.TheVariants.{Done, Refused}
+use Rattle.refusal.specs.Answer.{Answer, Done, Refused}
 use Rattle.plan.specs.Refusals.{first_refused}
 use Rattle.plan.proofs.Refusals.{first_done, first_refused_lem}
 use Rattle.state.specs.State.{tally_at}

@@ -2,7 +2,7 @@
 use Rattle.std.specs.Prelude.{List, [], ◌≡◌, ℕ, ◌<◌, length, get_or}
 use Rattle.laws.specs.Turns.{turns}
 use Rattle.flow.specs.declared.Offerer.TheVariants.{Sonar}
-use Rattle.plan.specs.declared.Answer.TheVariants.{Done, Refused}
+use Rattle.refusal.specs.Answer.{Done, Refused}
 use Rattle.state.specs.Forms.{state_number}
 use Rattle.state.specs.Outcome.{outcome}
 use Rattle.cycle.specs.Offer.{offer_on}

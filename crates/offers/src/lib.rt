@@ -2,6 +2,7 @@
 #![tactic(auto)]
 
 ghost use Rattle.std.specs.Prelude.{◌≡◌, ◌≤◌};
+ghost use Rattle.refusal.specs.Answer.{told};
 ghost use Rattle.state.specs.Words.{state_words};
 ghost use Rattle.state.specs.Read.{state_of};
 ghost use Rattle.state.specs.State.{tally_at};
@@ -12,21 +13,23 @@ ghost use Rattle.cycle.specs.Set.{offer_set_on};
 ghost use Rattle.offers.specs.Inner.{less_state, AddedMost, WasAdded, IsBack};
 
 use flow::Offerer;
-use plan::Answer;
+use refusal::Refusal;
+use state::StateWords;
 
 // Adds the entries in their order, up to the first that would be refused; how many it added.
 fn add_entries(state: &mut [u32], flows: &[u32]) -> usize
     requires { state_number state.old ≡ 0 }
     ensures { AddedMost state.old flows.now result state.new }
 {
-    for k in 0..flows.len() {
-        let f = flows[k];
-        if offer::offer_number(Offerer::Sonar, state, f) != 0 {
-            return k;
+    let mut added = 0;
+    for &f in flows {
+        if offer::check_offer(Offerer::Sonar, &StateWords::of(state), f).is_err() {
+            return added;
         }
         offer::wait_more(state, f);
+        added += 1;
     }
-    flows.len()
+    added
 }
 
 // A packet less waits at flow f.
@@ -35,8 +38,8 @@ fn wait_less(state: &mut [u32], f: u32)
     requires bound { 1 ≤ (tally_at (state_of state.old) f).waiting }
     ensures { state.new ≡ over (state_words (less_state (state_of state.old) f)) state.old }
 {
-    let t = cycle::tally_at(state, f);
-    offer::put_waiting(state, f, t.waiting - 1);
+    let waiting = StateWords::of(state).tally(f).waiting;
+    offer::put_waiting(state, f, waiting - 1);
 }
 
 // Takes the first n entries back, the last of them first.
@@ -44,29 +47,21 @@ fn take_back(state: &mut [u32], flows: &[u32], n: usize)
     requires { WasAdded flows.now n state.old }
     ensures { IsBack flows.now n state.old state.new }
 {
-    for k in 0..n {
-        wait_less(state, flows[n - 1 - k]);
+    for &f in flows[..n].iter().rev() {
+        wait_less(state, f);
     }
 }
 
-// An offer of one packet for each entry of a list of flows: 0, or the refusal with the position of the first refused entry.
-pub fn offer_set(state: &mut [u32], flows: &[u32]) -> Answer
-    ensures { outcome result state.new ≡ offer_set_on state.old flows.now }
+// An offer of one packet for each entry of a list of flows, or the refusal with the position of the first refused entry.
+pub fn offer_set(state: &mut [u32], flows: &[u32]) -> Result<(), Refusal>
+    ensures { outcome (told result) state.new ≡ offer_set_on state.old flows.now }
 {
-    let number = valid::state_number(state);
-    if number != 0 {
-        return Answer::Refused { number, place: 0 };
-    }
+    valid::check_state(state)?;
     let n = add_entries(state, flows);
     if n == flows.len() {
-        return Answer::Done(0);
+        return Ok(());
     }
-    let f = flows[n];
-    let place = n as u32;
-    let other = offer::offer_number(Offerer::Sonar, state, f);
+    let refused = offer::check_offer(Offerer::Sonar, &StateWords::of(state), flows[n]);
     take_back(state, flows, n);
-    Answer::Refused {
-        number: other,
-        place,
-    }
+    refused.map_err(|cause| cause.at(n as u32))
 }

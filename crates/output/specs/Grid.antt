@@ -8,7 +8,7 @@ use Rattle.flow.specs.Limits.{exit_size}
 use Rattle.flow.specs.Plan.{Plan, most_size}
 use Rattle.place.specs.Place.{Place, W, N}
 use Rattle.router.specs.Links.{reach}
-use Rattle.state.specs.declared.Register.{Register}
+use Rattle.state.specs.Register.{Register}
 use Rattle.state.specs.Layout.{register_size, router_size}
 use Rattle.state.specs.Inner.{most_routers}
 use Rattle.state.specs.Words.{register_words}

@@ -12,7 +12,7 @@ use Rattle.flow.specs.Plan.{most_size, most_flows}
 use Rattle.flow.specs.Ranges.{SizeOk}
 use Rattle.file.specs.declared.Trailer.{Trailer}
 use Rattle.file.specs.Layout.{most_file, trailer_size, record_size, tagged, trailer_of}
-use Rattle.plan.specs.declared.Answer.TheVariants.{Done}
+use Rattle.refusal.specs.Answer.{Done}
 use Rattle.plan.specs.Inner.{Framed}
 use Rattle.plan.specs.Refusals.{size_ok, header_number, trailer_number, answer_by, records_answer, plan_answer}
 use Rattle.plan.proofs.Refusals.{or_else_done, answer_done}

@@ -13,7 +13,7 @@ use Rattle.flow.specs.declared.Flow.{Flow}
 use Rattle.flow.proofs.Plan.{FlowOn, on_torus_facts}
 use Rattle.flow.specs.Plan.{flow_at, no_flow, on_torus}
 use Rattle.flow.specs.Ranges.{FlowOk, PlanOk}
-use Rattle.plan.specs.declared.Answer.TheVariants.{Done}
+use Rattle.refusal.specs.Answer.{Done}
 use Rattle.file.specs.Bytes.{little_endian2}
 use Rattle.file.specs.Layout.{trailer_of, period_at, flow_from, record_at, plan_of}
 use Rattle.plan.specs.Refusals.{record_number, flow_number, trailer_number, answer_by, records_answer, plan_answer}

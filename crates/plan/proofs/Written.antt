@@ -14,7 +14,7 @@ use Rattle.laws.proofs.Bounded.{all_at}
 use Rattle.laws.proofs.Parts.{drop_entries}
 use Rattle.flow.specs.declared.Flow.{Flow}
 use Rattle.flow.specs.Plan.{Plan}
-use Rattle.plan.specs.declared.Answer.TheVariants.{Done}
+use Rattle.refusal.specs.Answer.{Done}
 use Rattle.file.specs.Bytes.{third_byte, little_endian2, little_endian4, two_bytes, four_bytes}
 use Rattle.file.specs.Layout.{tag, tagged, trailer_of, period_at, flow_from, plan_of}
 use Rattle.plan.specs.Refusals.{plan_answer}

@@ -3,7 +3,7 @@ use Rattle.std.specs.Prelude.{true, List, ◌≡◌, ℕ, ◌+◌, ◌≤◌, �
 use Rattle.flow.specs.Plan.{flow_at, on_torus}
 use Rattle.file.specs.Bytes.{little_endian2}
 use Rattle.file.specs.Layout.{trailer_of, flow_from, record_at, plan_of}
-use Rattle.plan.specs.declared.Answer.TheVariants.{Done}
+use Rattle.refusal.specs.Answer.{Done}
 use Rattle.plan.specs.Refusals.{trailer_number, plan_answer}
 
 -- a record that 01 accepts: coordinates on the torus, P and σ not zero, last byte zero

@@ -1,7 +1,6 @@
 -- The notes of a plan file: its leading part; on a refusal that part is empty (01, Torus and plan file).
 use Rattle.std.specs.Prelude.{List, [], ℕ, take}
-use Rattle.plan.specs.declared.Answer.{Answer}
-use Rattle.plan.specs.declared.Answer.TheVariants.{Done, Refused}
+use Rattle.refusal.specs.Answer.{Answer, Done, Refused}
 use Rattle.file.specs.Layout.{trailer_of}
 use Rattle.plan.specs.Refusals.{plan_answer}
 

@@ -3,7 +3,7 @@ use Rattle.std.specs.Prelude.{List, ℕ, length, get_or}
 use Rattle.flow.specs.declared.Offerer.TheVariants.{Sonar}
 use Rattle.flow.specs.Plan.{Plan}
 use Rattle.flow.specs.Limits.{offer_number}
-use Rattle.plan.specs.declared.Answer.{Answer}
+use Rattle.refusal.specs.Answer.{Answer}
 use Rattle.plan.specs.Refusals.{first_refused}
 
 -- what the entry at this position, an offer of the sonar's, would be refused for, counting the entries before it as already added; else 0.

@@ -1,134 +1,149 @@
-// Plan files: the reader, its refusals 1 to 7, and the notes. Rests on file.
+// Plan files: the reader, its refusals 1 to 7, and the notes. Rests on refusal and file.
 #![tactic(auto)]
 
-ghost use Rattle.std.specs.Prelude.{◌≡◌, ◌+◌, ◌*◌, ◌<◌, ◌≤◌, length};
-ghost use Rattle.flow.specs.Plan.{most_flows};
-ghost use Rattle.file.specs.Layout.{trailer_size, record_size};
+ghost use Rattle.std.specs.Prelude.{◌≡◌, ◌+◌, ◌*◌, ◌<◌, ◌≤◌, IfOk, length};
+ghost use Rattle.refusal.specs.Answer.{Done, answer_with, told, number_in};
+ghost use Rattle.flow.specs.Plan.{most_flows, flow_at};
+ghost use Rattle.file.specs.Layout.{trailer_size, record_size, trailer_of, plan_of};
 ghost use Rattle.plan.specs.Refusals.{trailer_number, header_number, size_ok, record_number, records_answer, plan_answer};
 ghost use Rattle.plan.specs.Notes.{notes_of};
 
 use file::Trailer;
 use flow::Flow;
+use refusal::{Cause, Refusal};
+use std::marker::Model;
 
 // A plan has at most this many flows.
 pub const MOST_FLOWS: u32 = 256;
 // A size of the torus is at most this.
 pub const MOST_SIZE: u32 = 16;
 
-// What a call answers: a value, or the number of its refusal with the place.
-#[derive(Clone, Copy)]
-pub enum Answer {
-    Done(u32),
-    Refused { number: u32, place: u32 },
+// A plan file that reading accepts, seen as its bytes; its trailer is at hand.
+#[derive(Drop)]
+pub struct PlanFile<'a> {
+    bytes: &'a [u8],
+    trailer: Trailer,
+}
+
+impl<'a> Model for PlanFile<'a> {
+    ghost use Rattle.std.specs.Prelude.{List, ℕ, ◌≡◌};
+    ghost use Rattle.file.specs.Layout.{trailer_of};
+    ghost use Rattle.refusal.specs.Answer.{Done};
+    ghost use Rattle.plan.specs.Refusals.{plan_answer};
+
+    ghost Value = { List ℕ };
+
+    ghost view = { λ p. p.bytes.now };
+
+    ghost invariant = { λ p. (plan_answer p.bytes.now ≡ Done 0) × (p.trailer ≡ trailer_of p.bytes.now) };
 }
 
 // A size of the torus is 1..16.
 pub fn size_ok(s: u32) -> bool
     ensures { result ≡ size_ok s }
 {
-    if s < 1 {
-        return false;
-    }
-    s <= MOST_SIZE
+    1 <= s && s <= MOST_SIZE
 }
 
-// The refusal of sizes, count and start, or 0.
-fn header_number(t: Trailer, length: usize) -> u32
+// What sizes, count and start are refused for.
+fn check_header(t: Trailer, length: usize) -> Result<(), Cause>
     requires { trailer_size ≤ length }
-    ensures { result ≡ header_number t length }
+    ensures { number_in result ≡ header_number t length }
 {
-    if !size_ok(t.sx) {
-        return 3;
+    if !(size_ok(t.sx) && size_ok(t.sy)) {
+        return Err(Cause::TorusSize);
     }
-    if !size_ok(t.sy) {
-        return 3;
-    }
-    if t.count == 0 {
-        return 4;
-    }
-    if MOST_FLOWS < t.count {
-        return 4;
+    if t.count == 0 || MOST_FLOWS < t.count {
+        return Err(Cause::FlowCount);
     }
     if (t.start as usize) + file::RECORD_SIZE * (t.count as usize) != length - file::TRAILER_SIZE {
-        return 5;
+        return Err(Cause::Start);
     }
-    0
+    Ok(())
 }
 
-// The refusal of a file before its records, or 0.
-fn trailer_number(file: &[u8]) -> u32
-    ensures { result ≡ trailer_number file.now }
+// What a file is refused for before its records.
+fn check_trailer(file: &[u8]) -> Result<(), Cause>
+    ensures { number_in result ≡ trailer_number file.now }
 {
     let length = file.len();
-    if length < file::TRAILER_SIZE {
-        return 1;
-    }
-    if file::MOST_FILE < length {
-        return 1;
+    if length < file::TRAILER_SIZE || file::MOST_FILE < length {
+        return Err(Cause::FileLength);
     }
     if !file::tagged(file) {
-        return 2;
+        return Err(Cause::Tag);
     }
-    header_number(file::trailer_of(file), length)
+    check_header(file::trailer_of(file), length)
 }
 
-// The refusal of a record, or 0.
-fn record_number(sx: u32, sy: u32, f: Flow) -> u32
-    ensures { result ≡ record_number sx sy f }
+// What a record is refused for.
+fn check_record(sx: u32, sy: u32, f: Flow) -> Result<(), Cause>
+    ensures { number_in result ≡ record_number sx sy f }
 {
     if !f.on_torus(sx, sy) {
-        return 6;
+        return Err(Cause::OffTorus);
     }
-    if f.period == 0 {
-        return 7;
+    if f.period == 0 || f.burst == 0 {
+        return Err(Cause::NoRate);
     }
-    if f.burst == 0 {
-        return 7;
-    }
-    0
+    Ok(())
 }
 
 // The first refused record, if there is one.
-fn records_answer(file: &[u8], t: Trailer) -> Answer
+fn check_records(file: &[u8], t: Trailer) -> Result<(), Refusal>
     requires count_in_bounds { t.start + record_size * t.count ≤ length file.now }
     requires count_le_most_flows { t.count ≤ most_flows }
-    ensures { result ≡ records_answer file.now t }
+    ensures { told result ≡ records_answer file.now t }
 {
-    let start = t.start as usize;
-    let count = t.count;
-    for f in 0..count {
-        let at = start + file::RECORD_SIZE * (f as usize);
-        let number = record_number(t.sx, t.sy, file::flow_from(file, at));
-        if number != 0 {
-            return Answer::Refused { number, place: f };
-        }
+    for f in 0..t.count {
+        let at = (t.start as usize) + file::RECORD_SIZE * (f as usize);
+        check_record(t.sx, t.sy, file::flow_from(file, at)).map_err(|cause| cause.at(f))?;
     }
-    Answer::Done(0)
+    Ok(())
 }
 
-// Reading a plan file: 0, or the refusal with its place.
-pub fn plan_answer(file: &[u8]) -> Answer
-    ensures { result ≡ plan_answer file.now }
-{
-    let number = trailer_number(file);
-    if number != 0 {
-        return Answer::Refused { number, place: 0 };
+impl PlanFile<'_> {
+    // Reading a plan file: the file, or the refusal with its place.
+    pub fn open(bytes: &[u8]) -> Result<PlanFile<'_>, Refusal>
+        ensures answer { answer_with (λ file. 0) result ≡ plan_answer bytes.now }
+        ensures file { IfOk result (λ file. file ≡ bytes.now) }
+    {
+        check_trailer(bytes)?;
+        let trailer = file::trailer_of(bytes);
+        check_records(bytes, trailer)?;
+        Ok(PlanFile { bytes, trailer })
     }
-    records_answer(file, file::trailer_of(file))
+
+    // Start, count, Sx and Sy.
+    pub fn trailer(&self) -> Trailer
+        ensures value { result ≡ trailer_of self.now }
+        ensures accepted { plan_answer self.now ≡ Done 0 }
+    {
+        self.trailer
+    }
+
+    // Flow number f.
+    pub fn flow(&self, f: u32) -> Flow
+        requires { f < (trailer_of self.now).count }
+        ensures { result ≡ flow_at (plan_of self.now) f }
+    {
+        let start = self.trailer.start as usize;
+        file::flow_from(self.bytes, start + file::RECORD_SIZE * (f as usize))
+    }
+}
+
+// Reading a plan file: nothing, or the refusal with its place.
+pub fn plan_answer(file: &[u8]) -> Result<(), Refusal>
+    ensures { told result ≡ plan_answer file.now }
+{
+    let _ = PlanFile::open(file)?;
+    Ok(())
 }
 
 // The notes of a plan file as the leading part of the file; on a refusal that part is empty.
 pub fn notes(file: &[u8]) -> &[u8]
     ensures { result.now ≡ notes_of file.now }
 {
-    match plan_answer(file) {
-        Answer::Done(_) => {
-            let start = file::trailer_of(file).start as usize;
-            &file[..start]
-        }
-        Answer::Refused {
-            number: _,
-            place: _,
-        } => &file[..0],
-    }
+    let start = PlanFile::open(file).map_or(0, |plan| plan.trailer().start);
+    &file[..start as usize]
 }

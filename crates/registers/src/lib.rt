@@ -6,14 +6,14 @@ ghost use Rattle.laws.specs.Bounded.{all_below};
 ghost use Rattle.flow.specs.Offsets.{ΔX};
 ghost use Rattle.flow.specs.Ranges.{FlowOk};
 ghost use Rattle.place.specs.Input.{place_of};
-ghost use Rattle.state.specs.declared.Register.TheVariants.{Packet};
+ghost use Rattle.std.specs.Prelude.{Some};
 ghost use Rattle.state.specs.Layout.{flow_size, register_size, router_size};
 ghost use Rattle.state.specs.Read.{sx_in, sy_in, flow_in};
 ghost use Rattle.state.specs.Forms.{is_placed, contents_fit, register_fits, cell_fits};
 ghost use Rattle.state.specs.Facts.{Headed, FlowsFit, RouterOf};
 
 use place::Input;
-use state::Register;
+use state::Packet;
 
 // The four words from a place on are 0.
 pub fn four_zero(w: &[u32], at: usize) -> bool
@@ -27,10 +27,7 @@ pub fn four_zero(w: &[u32], at: usize) -> bool
 pub fn in_range(n: u32, most: u32) -> bool
     ensures { result ≡ leb 1 n && leb n most }
 {
-    if n < 1 {
-        return false;
-    }
-    n <= most
+    1 <= n && n <= most
 }
 
 // A packet of the flow at a place, whose ΔX is dx, entered before the clock, and is in place.
@@ -73,23 +70,18 @@ fn packet_fits(
     input: Input,
     x: u32,
     y: u32,
-    flow: u32,
-    serial: u32,
-    entry: u32,
-    d: u32,
+    packet: Packet,
 ) -> bool
     requires { RouterOf w.now dxs.now x y }
-    ensures { result ≡ contents_fit w.now (place_of input x y) 0 (Packet flow serial entry d) }
+    ensures { result ≡ contents_fit w.now (place_of input x y) 0 (Some packet) }
 {
-    if w[state::FLOWS] <= flow {
+    if w[state::FLOWS] <= packet.flow {
         return false;
     }
-    let number = flow as usize;
-    let at = state::flow_place(number);
-    if !in_range(serial, state::entered_in(w, at)) {
-        return false;
-    }
-    is_placed(w, input, x, y, at, dxs[number] as u32, entry, d)
+    let flow = packet.flow as usize;
+    let at = state::flow_place(flow);
+    in_range(packet.serial, state::entered_in(w, at))
+        && is_placed(w, input, x, y, at, dxs[flow] as u32, packet.entry, packet.deflections)
 }
 
 // The four words of a register are those of a state.
@@ -99,13 +91,8 @@ fn register_fits(w: &[u32], dxs: &[u8], input: Input, x: u32, y: u32, at: usize)
     ensures { result ≡ register_fits w.now (place_of input x y) at }
 {
     match state::register_at(w, at) {
-        Register::Empty => four_zero(w, at),
-        Register::Packet {
-            flow,
-            serial,
-            entry,
-            deflections,
-        } => packet_fits(w, dxs, input, x, y, flow, serial, entry, deflections),
+        None => four_zero(w, at),
+        Some(packet) => packet_fits(w, dxs, input, x, y, packet),
     }
 }
 
@@ -118,10 +105,8 @@ fn cell_fits(w: &[u32], dxs: &[u8], x: u32, y: u32) -> bool
     if state::is_vacant(w, at) {
         return four_zero(w, at) & four_zero(w, at + state::REGISTER_SIZE);
     }
-    if !register_fits(w, dxs, Input::West, x, y, at) {
-        return false;
-    }
-    register_fits(w, dxs, Input::North, x, y, at + state::REGISTER_SIZE)
+    register_fits(w, dxs, Input::West, x, y, at)
+        && register_fits(w, dxs, Input::North, x, y, at + state::REGISTER_SIZE)
 }
 
 // All registers of a row are those of a state.

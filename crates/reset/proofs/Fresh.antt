@@ -12,7 +12,7 @@ use Rattle.laws.proofs.Bounded.{length_tabulate, get_d_tabulate}
 use Rattle.laws.proofs.Stands.{length_join, join_same, join_stands, stands_in, stands_sets, stands_other, drop_sets}
 use Rattle.laws.proofs.Grid.{get_d_grid, cell_below}
 use Rattle.flow.specs.Plan.{Plan, flow_at, no_flow}
-use Rattle.plan.specs.declared.Answer.TheVariants.{Done}
+use Rattle.refusal.specs.Answer.{Done}
 use Rattle.plan.specs.Refusals.{trailer_number, answer_by, records_answer, plan_answer}
 use Rattle.plan.proofs.Refusals.{or_else_done, answer_done}
 use Rattle.file.specs.Layout.{trailer_of, flow_from, record_at, plan_of}

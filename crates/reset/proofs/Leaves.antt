@@ -11,7 +11,7 @@ use Rattle.laws.proofs.Stands.{Stands, stands_first}
 use Rattle.flow.specs.Plan.{Plan, flow_at}
 use Rattle.flow.specs.Ranges.{PlanOk}
 use Rattle.bucket.proofs.Regulator.{full_fits}
-use Rattle.plan.specs.declared.Answer.TheVariants.{Done}
+use Rattle.refusal.specs.Answer.{Done}
 use Rattle.file.specs.Layout.{plan_of}
 use Rattle.plan.specs.Refusals.{plan_answer}
 use Rattle.plan.proofs.Refusals.{refused_done}

@@ -4,6 +4,7 @@
 ghost use Rattle.std.specs.Prelude.{[], ◌∷◌, ◌≡◌, ◌+◌, ◌*◌, ◌≤◌, length};
 ghost use Rattle.std.proofs.lemmas.List.Edits.{sets};
 ghost use Rattle.laws.specs.Count.{join_below};
+ghost use Rattle.refusal.specs.Answer.{told};
 ghost use Rattle.flow.specs.Plan.{most_flows};
 ghost use Rattle.file.specs.Layout.{record_size, trailer_of, plan_of};
 ghost use Rattle.plan.specs.Refusals.{trailer_number};
@@ -18,7 +19,8 @@ ghost use Rattle.reset.specs.Fresh.{fresh_words, fresh_flows};
 use bucket::Bucket;
 use file::Trailer;
 use flow::Flow;
-use plan::Answer;
+use plan::PlanFile;
+use refusal::{Cause, Refusal};
 use state::Tally;
 
 // Writes Sx, Sy, F, clock 0 and the four zeros.
@@ -93,28 +95,14 @@ fn put_reset(file: &[u8], t: Trailer, w: &mut [u32])
     clear(w, state::flow_place(count), (t.sx * t.sy) as usize);
 }
 
-// The reset of an accepted file.
-fn reset_accepted(file: &[u8], w: &mut [u32]) -> Answer
-    requires { trailer_number file.now ≡ 0 }
-    ensures { outcome result w.new ≡ fresh_on (plan_of file.now) w.old }
-{
-    let t = file::trailer_of(file);
-    if w.len() < state::size(t.count as usize, t.sx, t.sy) {
-        return Answer::Refused {
-            number: 8,
-            place: 0,
-        };
-    }
-    put_reset(file, t, w);
-    Answer::Done(0)
-}
-
 // Reset: the plan's refusals, then 8; otherwise the state's words are written. Words past its size stay.
-pub fn reset(file: &[u8], state: &mut [u32]) -> Answer
-    ensures { outcome result state.new ≡ reset_on file.now state.old }
+pub fn reset(file: &[u8], state: &mut [u32]) -> Result<(), Refusal>
+    ensures { outcome (told result) state.new ≡ reset_on file.now state.old }
 {
-    match plan::plan_answer(file) {
-        Answer::Done(_) => reset_accepted(file, state),
-        Answer::Refused { number, place } => Answer::Refused { number, place },
+    let t = PlanFile::open(file)?.trailer();
+    if state.len() < state::size(t.count as usize, t.sx, t.sy) {
+        return Err(Cause::StateShort.into());
     }
+    put_reset(file, t, state);
+    Ok(())
 }

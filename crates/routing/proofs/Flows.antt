@@ -10,8 +10,8 @@ use Rattle.flow.specs.Offsets.{port_of, same_port}
 use Rattle.flow.specs.Plan.{most_flows, flow_at}
 use Rattle.router.specs.Rule.{turns_south, entrant}
 use Rattle.router.proofs.Entrant.{Found, no_entrant, has_entrant, found}
-use Rattle.state.specs.declared.Register.{Register}
-use Rattle.state.specs.declared.Register.TheVariants.{Empty, Packet}
+use Rattle.state.specs.Register.{Register}
+use Rattle.std.specs.Prelude.{Some, None}
 use Rattle.state.specs.State.{cell_at}
 use Rattle.state.specs.Inner.{flow_of}
 use Rattle.state.specs.Read.{count_in, state_of}

@@ -6,8 +6,8 @@ use mathlib.Core.Path.{◌≡◌, refl}
 use Prim.Native.Nat.{ℕ}
 use Rattle.laws.proofs.Cases.{and_true}
 use Rattle.router.specs.Rule.{Way, leave, takes, entrant}
-use Rattle.state.specs.declared.Register.{Register}
-use Rattle.state.specs.declared.Register.TheVariants.{Empty, Packet}
+use Rattle.state.specs.Register.{Register}
+use Rattle.std.specs.Prelude.{Some, None}
 use Rattle.state.specs.State.{State, cell_at}
 use Rattle.state.specs.Read.{state_of}
 use Rattle.cycle.specs.Seen.{view}

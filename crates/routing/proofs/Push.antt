@@ -25,7 +25,7 @@ use Rattle.place.specs.Place.{Place, W, N, column_of, row_of, same_place}
 use Rattle.router.specs.Links.{reach, feeder}
 use Rattle.router.specs.Rule.{via}
 use Rattle.router.proofs.Links.{reach_same, feeder_on, reach_feeder}
-use Rattle.state.specs.declared.Register.TheVariants.{Empty}
+use Rattle.std.specs.Prelude.{None}
 use Rattle.state.specs.Layout.{register_size, router_size}
 use Rattle.state.specs.Words.{register_words, cell_words}
 use Rattle.state.specs.Read.{sx_in, sy_in, plan_in, state_of}

@@ -18,80 +18,74 @@ ghost use Rattle.routing.specs.Walk.{grid_in, registers_in, pushed, pushed_row, 
 
 use flow::Port;
 use output::Grid;
-use state::{Cell, Register};
+use state::{Cell, Packet, StateWords};
 
 // What is sent by the two outputs of a router.
 #[derive(Clone, Copy)]
 struct Sent {
-    east: Register,
-    south: Register,
+    east: Option<Packet>,
+    south: Option<Packet>,
 }
 
 // What a client sends, by who enters: the number + 1 of the flow, or 0.
-fn client_sends(state: &[u32], who: u32) -> Sent
-    requires state_facts { StateFacts state.now }
-    requires who_bound { (who ≤ count_in state.now) × (clock_in state.now < last_clock) }
+fn client_sends(state: &StateWords, who: u32) -> Sent
+    requires { (who ≤ count_in state.now) × (clock_in state.now < last_clock) }
     ensures { result ≡ client_sends (state_of state.now) (entrant_in who) }
 {
-    let none = Register::Empty;
     if who == 0 {
         return Sent {
-            east: none,
-            south: none,
+            east: None,
+            south: None,
         };
     }
     let f = who - 1;
-    let flow = cycle::flow_at(state, f);
-    let tally = cycle::tally_at(state, f);
-    let packet = Register::Packet {
+    let flow = state.flow(f);
+    let tally = state.tally(f);
+    let packet = Packet {
         flow: f,
         serial: tally.entered + 1,
-        entry: state[state::CLOCK],
+        entry: state.clock(),
         deflections: 0,
     };
-    let port = flow.port(state[state::SX]);
-    match port {
+    match flow.port(state.sx()) {
         Port::East => Sent {
-            east: packet,
-            south: none,
+            east: Some(packet),
+            south: None,
         },
         Port::South => Sent {
-            east: none,
-            south: packet,
+            east: None,
+            south: Some(packet),
         },
     }
 }
 
 // The registers of the router in column x and row y, by the sizes that the walk has at hand.
-fn cell_on(state: &[u32], grid: Grid, x: u32, y: u32) -> Cell
+fn cell_on(state: &StateWords, grid: Grid, x: u32, y: u32) -> Cell
     requires at_router { AtRouter state.now x y }
     requires grid_value { grid ≡ grid_in state.now }
     ensures { result ≡ cell_at (state_of state.now) x y }
 {
-    state::cell_in(state, state::router_place(grid.flows, grid.sx, x, y))
+    state::cell_in(state.words(), state::router_place(grid.flows, grid.sx, x, y))
 }
 
 // What the router in column x and row y sends, by who enters there.
-fn router_sends(state: &[u32], grid: Grid, x: u32, y: u32, who: u32) -> Sent
+fn router_sends(state: &StateWords, grid: Grid, x: u32, y: u32, who: u32) -> Sent
     requires at_router { AtRouter state.now x y }
     requires grid_value { grid ≡ grid_in state.now }
     requires who_value { entrant_in who ≡ entrant (state_of state.now).plan (view (state_of state.now)) x y }
     ensures { result ≡ sent_at (state_of state.now) x y }
 {
     let cell = cell_on(state, grid, x, y);
-    let west = cell.west;
-    let north = cell.north;
-    let turning = cycle::turns_south(state, x, west);
+    let turning = cycle::turns_south(state, x, cell.west);
     let client = client_sends(state, who);
-    let by_east = client.east;
-    let by_south = client.south;
-    let east = cycle::sent_east(turning, west, north, by_east);
-    let south = cycle::sent_south(turning, west, north, by_south);
-    Sent { east, south }
+    Sent {
+        east: cycle::sent_east(turning, cell.west, cell.north, client.east),
+        south: cycle::sent_south(turning, cell.west, cell.north, client.south),
+    }
 }
 
 // What the router in column x and row y sends, with the entrants of all clients.
-fn sent_at(state: &[u32], grid: Grid, x: u32, y: u32, entrants: &[u32]) -> Sent
+fn sent_at(state: &StateWords, grid: Grid, x: u32, y: u32, entrants: &[u32]) -> Sent
     requires at_router { AtRouter state.now x y }
     requires grid_value { grid ≡ grid_in state.now }
     requires entrants { Entrants (state_of state.now) (count_in state.now) entrants.now }
@@ -102,19 +96,19 @@ fn sent_at(state: &[u32], grid: Grid, x: u32, y: u32, entrants: &[u32]) -> Sent
 }
 
 // No packet stands at the router in column x and row y, nor enters there.
-fn is_idle(state: &[u32], grid: Grid, x: u32, y: u32, entrants: &[u32]) -> bool
+fn is_idle(state: &StateWords, grid: Grid, x: u32, y: u32, entrants: &[u32]) -> bool
     requires walking { Walking state.now grid entrants.now }
     requires x_bound { (x < sx_in state.now) × (y < sy_in state.now) }
     ensures { result ≡ is_idle (state_of state.now) x y }
 {
     let router = state::router_index(grid.sx, x, y);
     let at = state::router_place(grid.flows, grid.sx, x, y);
-    (entrants[router] == 0) & state::is_vacant(state, at)
+    (entrants[router] == 0) & state::is_vacant(state.words(), at)
 }
 
 // The router in column x and row y: what it sends goes to its neighbours' next registers, or is delivered after `count` exits.
 fn route(
-    state: &[u32],
+    state: &StateWords,
     grid: Grid,
     x: u32,
     y: u32,
@@ -132,17 +126,19 @@ fn route(
     ensures delivery_after { delivery.new ≡ sets delivery.old (exit_size * count) (words_of (delivered (state_of state.now) x y)) }
 {
     let sent = sent_at(state, grid, x, y, entrants);
-    let east = sent.east;
-    let south = sent.south;
-    let exits = cycle::exits(state, x, y, south);
-    output::push_east(grid, x, y, east, next);
-    output::push_south(grid, x, y, output::unless_exits(exits, south), next);
-    output::deliver(exits, south, state[state::CLOCK], delivery, count)
+    let (onward, exit) = if cycle::exits(state, x, y, sent.south) {
+        (None, sent.south)
+    } else {
+        (sent.south, None)
+    };
+    output::push_east(grid, x, y, sent.east, next);
+    output::push_south(grid, x, y, onward, next);
+    output::deliver(exit, state.clock(), delivery, count)
 }
 
 // The routers of row y, after `count` exits.
 fn route_row(
-    state: &[u32],
+    state: &StateWords,
     grid: Grid,
     y: u32,
     entrants: &[u32],
@@ -168,7 +164,7 @@ fn route_row(
 }
 
 // All routers, by row then column.
-pub fn route_all(state: &[u32], entrants: &[u32], next: &mut [u32], delivery: &mut [u32]) -> u32
+pub fn route_all(state: &StateWords, entrants: &[u32], next: &mut [u32], delivery: &mut [u32]) -> u32
     requires all_entered { AllEntered state.now entrants.now }
     requires state_in_bounds { registers_in state.now ≤ length next.old }
     requires state_in_bounds_2 { exit_size * (sx_in state.now * sy_in state.now) ≤ length delivery.old }
@@ -176,15 +172,13 @@ pub fn route_all(state: &[u32], entrants: &[u32], next: &mut [u32], delivery: &m
     ensures value { result ≡ length (deliveries (state_of state.now)) }
     ensures delivery_after { delivery.new ≡ sets delivery.old 0 (words_of (deliveries (state_of state.now))) }
 {
-    let sy = state[state::SY];
-    let flows = state[state::FLOWS] as usize;
     let grid = Grid {
-        sx: state[state::SX],
-        sy,
-        flows,
+        sx: state.sx(),
+        sy: state.sy(),
+        flows: state.flows() as usize,
     };
     let mut done = 0;
-    for y in 0..sy {
+    for y in 0..grid.sy {
         done = route_row(state, grid, y, entrants, next, delivery, done);
     }
     done

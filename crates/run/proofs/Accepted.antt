@@ -11,8 +11,7 @@ use lib.Seq.{take_all}
 use Rattle.laws.specs.Count.{one, count}
 use Rattle.laws.proofs.Cases.{test}
 use Rattle.flow.specs.Plan.{Plan}
-use Rattle.plan.specs.declared.Answer.{Answer}
-use Rattle.plan.specs.declared.Answer.TheVariants.{Done, Refused}
+use Rattle.refusal.specs.Answer.{Answer, Done, Refused}
 use Rattle.book.specs.Book.{Book, total_of, offered_first}
 use Rattle.book.specs.Feed.{Call, refusal, Fed, ran_many, judged, feed, run_from}
 use Rattle.book.specs.Feed as Feed

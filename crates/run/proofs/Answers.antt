@@ -15,13 +15,12 @@ use Rattle.flow.specs.declared.Offerer.{Offerer}
 use Rattle.flow.specs.declared.Offerer.TheVariants.{Sonar}
 use Rattle.flow.specs.Plan.{Plan, flow_at}
 use Rattle.flow.proofs.Limits.{offer_passes}
-use Rattle.plan.specs.declared.Answer.{Answer}
-use Rattle.plan.specs.declared.Answer.TheVariants.{Done, Refused}
+use Rattle.refusal.specs.Answer.{Answer, Done, Refused}
 use Rattle.plan.specs.Set.{set_number}
 use Rattle.file.specs.Layout.{plan_of}
 use Rattle.plan.proofs.Refusals.{refused_done, answer_done, first_done}
 use Rattle.plan.proofs.Ranges.{Bytes, plan_ok}
-use Rattle.window.specs.declared.Window.TheVariants.{At}
+use Rattle.std.specs.Prelude.{Some}
 use Rattle.window.specs.Window.{burst_window_of}
 use Rattle.flight.specs.Flight.{flight, flight_of, flight_bound, most_deflections}
 use Rattle.flight.proofs.Flight.{flight_of_lem, flight_bounded}
@@ -115,7 +114,7 @@ module _ (file words : List ℕ) (bytes : Bytes file) (done : (reset_on file wor
     known : f < length p.flows
     known = (burst_told file f k B e).0
 
-    window : burst_window_of p f k ≡ At B
+    window : burst_window_of p f k ≡ Some B
     window = (burst_told file f k B e).1
 
     offered_enter : (offers more : List Item) → BurstOffered memory offers f k

@@ -9,7 +9,7 @@ use lib.ListN.{length, drop}
 use Rattle.laws.proofs.Cases.{eqb_both}
 use Rattle.laws.proofs.Count.{count_find}
 use Rattle.flow.specs.Plan.{Plan}
-use Rattle.window.specs.declared.Window.TheVariants.{At}
+use Rattle.std.specs.Prelude.{Some}
 use Rattle.window.specs.Window.{burst_window_of}
 use Rattle.window.proofs.BurstWindows.{burst_least}
 use Rattle.book.specs.Line.{Line}
@@ -31,7 +31,7 @@ use Rattle.run.proofs.Lines.{entered_by, tally_is, clock_is}
 use Rattle.run.proofs.Parts.{list_parts, book_parts}
 use Rattle.run.proofs.Accepted.{accepted_total}
 
-module _ (p : Plan) (words : List ℕ) (f : ℕ) (known : f < length p.flows) (k B : ℕ) (window : burst_window_of p f k ≡ At B) where
+module _ (p : Plan) (words : List ℕ) (f : ℕ) (known : f < length p.flows) (k B : ℕ) (window : burst_window_of p f k ≡ Some B) where
   abbrev tail : List ℕ
   tail = drop (plan_size p) words
 

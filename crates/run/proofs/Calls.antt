@@ -14,8 +14,7 @@ use Rattle.flow.proofs.Limits.{offer_passes}
 use Rattle.book.specs.Feed.{Fed, judged, feed, refusal}
 use Rattle.book.specs.Feed as Feed
 use Rattle.book.proofs.Kept.{Kept, many_reply}
-use Rattle.plan.specs.declared.Answer.{Answer}
-use Rattle.plan.specs.declared.Answer.TheVariants.{Done, Refused}
+use Rattle.refusal.specs.Answer.{Answer, Done, Refused}
 use Rattle.plan.specs.Refusals.{answer_by, refused_or}
 use Rattle.plan.proofs.Refusals.{first_done}
 use Rattle.plan.specs.Written.{plan_bytes}

@@ -12,8 +12,7 @@ use Rattle.laws.proofs.Cases.{test}
 use Rattle.flow.specs.Plan.{Plan}
 use Rattle.flow.specs.Ranges.{PlanOk}
 use Rattle.flow.specs.Limits.{exit_size}
-use Rattle.plan.specs.declared.Answer.{Answer}
-use Rattle.plan.specs.declared.Answer.TheVariants.{Done, Refused}
+use Rattle.refusal.specs.Answer.{Answer, Done, Refused}
 use Rattle.file.specs.Layout.{plan_of}
 use Rattle.plan.proofs.Ranges.{plan_ok}
 use Rattle.book.specs.Book.{Book, start}

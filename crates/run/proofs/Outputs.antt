@@ -29,7 +29,7 @@ use Rattle.book.proofs.Queue.{lowest_next, goes_count}
 use Rattle.book.proofs.Traced.{Sound}
 use Rattle.book.proofs.Outputs.{outgoing, entrants_of, outgoing_is}
 use Rattle.book.proofs.Kept.{Kept}
-use Rattle.state.specs.declared.Register.TheVariants.{Empty, Packet}
+use Rattle.std.specs.Prelude.{Some, None}
 use Rattle.cycle.specs.Step.{onward, entering, sends_by, sent_by, carried}
 use Rattle.run.specs.View.{packet_of, holding, register_of, book_state}
 use Rattle.run.proofs.View.{tally_at_lem, cell_at_lem, seen_same, entrants_agree}

@@ -6,8 +6,7 @@ use Prim.Native.Nat.{ℕ}
 use lib.Dec.{ltb}
 use lib.ListN.{length}
 use Rattle.laws.proofs.Cases.{test}
-use Rattle.plan.specs.declared.Answer.{Answer}
-use Rattle.plan.specs.declared.Answer.TheVariants.{Done, Refused}
+use Rattle.refusal.specs.Answer.{Answer, Done, Refused}
 use Rattle.file.specs.Layout.{plan_of}
 use Rattle.plan.specs.Refusals.{plan_answer}
 use Rattle.state.specs.Outcome.{unless_refused}

@@ -10,7 +10,7 @@ use Rattle.flow.specs.declared.Offerer.TheVariants.{Sonar}
 use Rattle.flow.specs.Plan.{Plan}
 use Rattle.flow.specs.Limits.{offer_number}
 use Rattle.flow.proofs.Limits.{offer_passes}
-use Rattle.plan.specs.declared.Answer.{Answer}
+use Rattle.refusal.specs.Answer.{Answer}
 use Rattle.plan.specs.Set.{set_number, set_answer}
 use Rattle.plan.proofs.Refusals.{first_same}
 use Rattle.book.specs.Book.{Book, waiting_of, offered_first}

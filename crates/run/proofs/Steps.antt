@@ -6,7 +6,7 @@ use lib.ListN.{length}
 use Rattle.laws.specs.Turns.{turns}
 use Rattle.flow.specs.Plan.{Plan}
 use Rattle.flow.specs.Limits.{exit_size, used_room, step_number}
-use Rattle.plan.specs.declared.Answer.TheVariants.{Done}
+use Rattle.refusal.specs.Answer.{Done}
 use Rattle.router.specs.Delivery.{words_of}
 use Rattle.book.specs.Book.{Book}
 use Rattle.book.specs.Feed.{Fed, advanced, ran_many}

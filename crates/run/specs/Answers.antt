@@ -6,7 +6,7 @@ use Rattle.laws.specs.Bounded.{tabulate}
 use Rattle.laws.specs.Count.{count}
 use Rattle.flow.specs.declared.Offerer.{Offerer}
 use Rattle.flow.specs.Plan.{flow_at}
-use Rattle.plan.specs.declared.Answer.TheVariants.{Done}
+use Rattle.refusal.specs.Answer.{Done}
 use Rattle.file.specs.Layout.{plan_of}
 use Rattle.plan.specs.Notes.{notes_of}
 use Rattle.window.specs.Window.{lone_wait}

@@ -3,8 +3,7 @@
 use Rattle.std.specs.Prelude.{List, [], ◌∷◌, ◌++◌, ℕ, ◌+◌, eqb, take, drop}
 use Rattle.laws.specs.Count.{one, count}
 use Rattle.flow.specs.declared.Offerer.{Offerer}
-use Rattle.plan.specs.declared.Answer.{Answer}
-use Rattle.plan.specs.declared.Answer.TheVariants.{Done, Refused}
+use Rattle.refusal.specs.Answer.{Answer, Done, Refused}
 use Rattle.state.specs.Outcome.{Outcome, outcome, Lent}
 use Rattle.state.specs.Reset.{reset_on}
 use Rattle.state.specs.Writing.{write_on}

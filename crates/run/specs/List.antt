@@ -3,8 +3,7 @@
 -- A later request's call is one case more of `role`, beside those in Calls; all else is said of any call.
 use Rattle.std.specs.Prelude.{cond, List, [], ◌∷◌, ◌++◌, ◌≢◌, ◌≡◌, ℕ, ◌<◌, ltb, length, get_or, drop}
 use Rattle.flow.specs.Plan.{Plan}
-use Rattle.plan.specs.declared.Answer.{Answer}
-use Rattle.plan.specs.declared.Answer.TheVariants.{Done}
+use Rattle.refusal.specs.Answer.{Answer, Done}
 use Rattle.file.specs.Layout.{plan_of}
 use Rattle.plan.specs.Written.{plan_bytes}
 use Rattle.book.specs.Book.{Book, start}

@@ -7,19 +7,19 @@ use Rattle.place.specs.Place.{Place, W, N}
 use Rattle.book.specs.Line.{Line, entry_of}
 use Rattle.book.specs.Book.{Book, bucket_at, waiting_of, entered_of}
 use Rattle.book.specs.Cycle.{lines_in}
-use Rattle.state.specs.declared.Register.{Register}
-use Rattle.state.specs.declared.Register.TheVariants.{Empty, Packet}
+use Rattle.state.specs.Register.{Register, packet_with}
+use Rattle.std.specs.Prelude.{Some, None}
 use Rattle.state.specs.declared.Tally.{Tally}
 use Rattle.state.specs.declared.Cell.{Cell}
 use Rattle.state.specs.State.{State}
 
 -- a line as a register has it: flow, serial, entry cycle, deflections D
 abbrev pub packet_of : Line → Register
-packet_of l = Packet l.flow l.serial (entry_of l.stage) l.D
+packet_of l = Some (packet_with l.flow l.serial (entry_of l.stage) l.D)
 
 -- a register with these lines placed in it; no two lines share a place
 abbrev pub holding : List Line → Register
-holding [] = Empty
+holding [] = None
 holding (l ∷ ls) = packet_of l
 
 -- a register holds the line placed there or is empty

@@ -10,7 +10,7 @@ use lib.ListN.{length, get_or, drop}
 use Rattle.laws.specs.Bounded.{tabulate}
 use Rattle.laws.proofs.Stands.{Stands, stands_entries, stands_append}
 use Rattle.place.specs.Place.{W, N}
-use Rattle.state.specs.declared.Register.TheVariants.{Empty}
+use Rattle.std.specs.Prelude.{None}
 use Rattle.state.specs.Layout.{header_size, flow_size, register_size, flow_place, router_place, plan_size}
 use Rattle.state.specs.State.{cell_at}
 use Rattle.state.specs.Words.{header_words, flow_words, register_words, cell_words}

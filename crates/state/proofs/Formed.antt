@@ -17,8 +17,8 @@ use Rattle.flow.specs.Plan.{flow_at, most_size, most_flows, most_period, most_bu
 use Rattle.flow.specs.Ranges.{FlowOk, PlanOk}
 use Rattle.place.specs.Place.{Place, W, N}
 use Rattle.place.specs.InPlace.{is_in_place}
-use Rattle.state.specs.declared.Register.{Register}
-use Rattle.state.specs.declared.Register.TheVariants.{Empty, Packet}
+use Rattle.state.specs.Register.{Register}
+use Rattle.std.specs.Prelude.{Some, None}
 use Rattle.state.specs.Layout.{header_size, register_size, flow_place, router_place}
 use Rattle.state.specs.State.{State, tally_at, cell_at}
 use Rattle.state.specs.Words.{register_words, state_words}

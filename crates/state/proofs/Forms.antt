@@ -20,7 +20,7 @@ use Rattle.plan.proofs.Accepted.{size_ok_lem}
 use Rattle.place.specs.Place.{Place, W, N}
 use Rattle.flow.specs.Limits.{most_waiting}
 use Rattle.place.specs.InPlace.{is_in_place}
-use Rattle.state.specs.declared.Register.TheVariants.{Empty, Packet}
+use Rattle.std.specs.Prelude.{Some, None}
 use Rattle.state.specs.declared.Tally.{Tally}
 use Rattle.state.specs.Layout.{header_size, zeros_place, register_size, flow_place}
 use Rattle.state.specs.Read.{sx_in, sy_in, count_in, clock_in, flow_in, tally_in, register_in, router_in}

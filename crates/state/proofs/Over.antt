@@ -7,8 +7,7 @@ use native.Mathlib.Omega.{arith}
 use lib.ListN.{length, take, drop, length-append, take-append-drop}
 use lib.Seq.{sets, sets-eq, take_at, drop_at, drop-drop, drop-append-le}
 use Rattle.laws.proofs.Stands.{Stands, stands_start}
-use Rattle.plan.specs.declared.Answer.{Answer}
-use Rattle.plan.specs.declared.Answer.TheVariants.{Done, Refused}
+use Rattle.refusal.specs.Answer.{Answer, Done, Refused}
 use Rattle.plan.proofs.Refusals.{refused_done}
 use Rattle.state.specs.Outcome.{Outcome, refused, unless, unless_refused, over}
 

@@ -13,8 +13,8 @@ use Rattle.laws.proofs.Stands.{Stands, stands_in, stands_first, stands_after}
 use Rattle.laws.proofs.Grid.{is_grid}
 use Rattle.flow.specs.declared.Flow.{Flow}
 use Rattle.flow.specs.Plan.{flow_at, no_flow}
-use Rattle.state.specs.declared.Register.{Register}
-use Rattle.state.specs.declared.Register.TheVariants.{Empty, Packet}
+use Rattle.state.specs.Register.{Register}
+use Rattle.std.specs.Prelude.{Some, None}
 use Rattle.state.specs.declared.Tally.{Tally}
 use Rattle.state.specs.declared.Cell.{Cell}
 use Rattle.state.specs.Layout.{register_size, flow_place, plan_size}

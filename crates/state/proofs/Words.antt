@@ -8,8 +8,8 @@ use Rattle.laws.specs.Count.{join_below}
 use Rattle.laws.proofs.Stands.{length_join}
 use Rattle.laws.proofs.Grid.{cell_below, rows, length_rows}
 use Rattle.flow.specs.Plan.{flow_at}
-use Rattle.state.specs.declared.Register.{Register}
-use Rattle.state.specs.declared.Register.TheVariants.{Empty, Packet}
+use Rattle.state.specs.Register.{Register}
+use Rattle.std.specs.Prelude.{Some, None}
 use Rattle.state.specs.declared.Cell.{Cell}
 use Rattle.state.specs.Layout.{flow_size, register_size, router_size, flow_place, router_place, state_size, plan_size}
 use Rattle.state.specs.State.{State, tally_at, cell_at}

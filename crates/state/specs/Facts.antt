@@ -7,7 +7,7 @@ use Rattle.flow.specs.Plan.{most_flows}
 use Rattle.flow.specs.Ranges.{FlowOk, SizeOk}
 use Rattle.flow.specs.Limits.{most_waiting}
 use Rattle.place.specs.Place.{W, N}
-use Rattle.state.specs.declared.Register.{Register}
+use Rattle.state.specs.Register.{Register}
 use Rattle.state.specs.declared.Tally.{Tally}
 use Rattle.state.specs.Layout.{zeros_place, register_size, flow_place}
 use Rattle.state.specs.Inner.{flow_of}

@@ -8,8 +8,8 @@ use Rattle.plan.specs.Refusals.{size_ok}
 use Rattle.place.specs.Place.{Place, W, N}
 use Rattle.flow.specs.Limits.{most_waiting}
 use Rattle.place.specs.InPlace.{is_in_place}
-use Rattle.state.specs.declared.Register.{Register}
-use Rattle.state.specs.declared.Register.TheVariants.{Empty, Packet}
+use Rattle.state.specs.Register.{Register}
+use Rattle.std.specs.Prelude.{Some, None}
 use Rattle.state.specs.Layout.{header_size, zeros_place, register_size, flow_place, state_size}
 use Rattle.state.specs.declared.Tally.{Tally}
 use Rattle.state.specs.Read.{sx_in, sy_in, count_in, clock_in, flow_in, tally_in, register_in, router_in}
@@ -46,11 +46,11 @@ is_placed w place at entry D = ltb entry (clock_in w) && is_in_place (sx_in w) (
 -- an empty register is four zeros; a packet is of a flow below F, its serial is 1..entered, its entry is before the clock,
 -- and it is in place
 abbrev pub contents_fit : List ℕ → Place → (at : ℕ) → Register → Bool
-contents_fit w place at Empty = all_below register_size (λ k. eqb (get_or w (at + k) 0) 0)
-contents_fit w place at (Packet flow serial entry deflections) =
-    ltb flow (count_in w)
-    && (leb 1 serial && leb serial (tally_in w (flow_place flow)).entered)
-    && is_placed w place (flow_place flow) entry deflections
+contents_fit w place at None = all_below register_size (λ k. eqb (get_or w (at + k) 0) 0)
+contents_fit w place at (Some packet) =
+    ltb packet.flow (count_in w)
+    && (leb 1 packet.serial && leb packet.serial (tally_in w (flow_place packet.flow)).entered)
+    && is_placed w place (flow_place packet.flow) packet.entry packet.deflections
 
 -- the four words of a register
 unfoldable pub register_fits : List ℕ → Place → (at : ℕ) → Bool

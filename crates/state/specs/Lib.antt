@@ -1,5 +1,6 @@
 -- The state and its words, in 01's words.
 pub mod Layout
+pub mod Register
 pub mod State
 pub mod Words
 pub mod Read

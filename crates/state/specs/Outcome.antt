@@ -1,7 +1,6 @@
 -- What a call answers and leaves in the memory lent to it; a refusal leaves it as it was (01, When a call says no).
 use Rattle.std.specs.Prelude.{List, ◌++◌, ℕ, zero, suc, length, drop}
-use Rattle.plan.specs.declared.Answer.{Answer}
-use Rattle.plan.specs.declared.Answer.TheVariants.{Done, Refused}
+use Rattle.refusal.specs.Answer.{Answer, Done, Refused}
 
 -- the answer, and the lent memory afterwards
 pub record Outcome (A M : Type 0) : Type 0 where

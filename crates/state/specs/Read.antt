@@ -4,8 +4,8 @@ use Rattle.laws.specs.Bounded.{tabulate}
 use Rattle.laws.specs.Grid.{grid}
 use Rattle.flow.specs.declared.Flow.{Flow}
 use Rattle.flow.specs.Plan.{Plan, flow_with}
-use Rattle.state.specs.declared.Register.{Register}
-use Rattle.state.specs.declared.Register.TheVariants.{Empty, Packet}
+use Rattle.state.specs.Register.{Register, packet_with}
+use Rattle.std.specs.Prelude.{Some, None}
 use Rattle.state.specs.Layout.{clock_place, number_size, register_size, flow_place, router_place}
 use Rattle.state.specs.declared.Tally.{Tally}
 use Rattle.state.specs.declared.Cell.{Cell}
@@ -41,7 +41,8 @@ tally_in w at =
 -- empty if the first word is 0, otherwise the packet of flow + 1
 abbrev pub register_in : List ℕ → ℕ → Register
 register_in w at =
-    cond (eqb (get_or w at 0) 0) Empty (Packet (get_or w at 0 - 1) (get_or w (at + 1) 0) (get_or w (at + 2) 0) (get_or w (at + 3) 0))
+    cond (eqb (get_or w at 0) 0) None
+    (Some (packet_with (get_or w at 0 - 1) (get_or w (at + 1) 0) (get_or w (at + 2) 0) (get_or w (at + 3) 0)))
 
 -- W before N
 abbrev pub cell_in : List ℕ → ℕ → Cell

@@ -1,8 +1,7 @@
 -- What reset answers and leaves behind (01, State memory; When a call says no).
 use Rattle.std.specs.Prelude.{cond, List, ℕ, ltb, length}
 use Rattle.flow.specs.Plan.{Plan}
-use Rattle.plan.specs.declared.Answer.{Answer}
-use Rattle.plan.specs.declared.Answer.TheVariants.{Done}
+use Rattle.refusal.specs.Answer.{Answer, Done}
 use Rattle.file.specs.Layout.{plan_of}
 use Rattle.plan.specs.Refusals.{plan_answer}
 use Rattle.state.specs.Layout.{plan_size}

@@ -4,7 +4,7 @@ use Rattle.laws.specs.Bounded.{tabulate}
 use Rattle.laws.specs.Grid.{grid, cell_index}
 use Rattle.flow.specs.Plan.{Plan, flow_at}
 use Rattle.bucket.specs.Regulator.{full_bucket}
-use Rattle.state.specs.declared.Register.TheVariants.{Empty}
+use Rattle.std.specs.Prelude.{None}
 use Rattle.state.specs.declared.Tally.{Tally}
 use Rattle.state.specs.declared.Cell.{Cell}
 
@@ -20,7 +20,7 @@ abbrev pub fresh_tally : (burst : ℕ) → Tally
 fresh_tally burst = record { bucket = full_bucket burst; entered = 0; waiting = 0 }
 
 abbrev pub empty_cell : Cell
-empty_cell = record { west = Empty; north = Empty }
+empty_cell = record { west = None; north = None }
 
 -- flow f's tally
 abbrev pub tally_at : State → ℕ → Tally

@@ -3,8 +3,8 @@ use Rattle.std.specs.Prelude.{List, [], ◌∷◌, ◌++◌, ℕ, ◌+◌, lengt
 use Rattle.laws.specs.Count.{join_below}
 use Rattle.flow.specs.declared.Flow.{Flow}
 use Rattle.flow.specs.Plan.{Plan, flow_at}
-use Rattle.state.specs.declared.Register.{Register}
-use Rattle.state.specs.declared.Register.TheVariants.{Empty, Packet}
+use Rattle.state.specs.Register.{Register}
+use Rattle.std.specs.Prelude.{Some, None}
 use Rattle.state.specs.declared.Tally.{Tally}
 use Rattle.state.specs.declared.Cell.{Cell}
 use Rattle.state.specs.State.{State, tally_at, cell_at}
@@ -27,8 +27,8 @@ flow_words f t = number_words f ++ tally_words t
 
 -- empty is four zeros; otherwise flow + 1, serial, entry cycle, deflections D
 abbrev pub register_words : Register → List ℕ
-register_words Empty = 0 ∷ 0 ∷ 0 ∷ 0 ∷ []
-register_words (Packet flow serial entry deflections) = (flow + 1) ∷ serial ∷ entry ∷ deflections ∷ []
+register_words None = 0 ∷ 0 ∷ 0 ∷ 0 ∷ []
+register_words (Some packet) = (packet.flow + 1) ∷ packet.serial ∷ packet.entry ∷ packet.deflections ∷ []
 
 -- W before N
 abbrev pub cell_words : Cell → List ℕ

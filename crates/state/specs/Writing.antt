@@ -1,7 +1,6 @@
 -- What writing answers and leaves behind (01, State memory; When a call says no).
 use Rattle.std.specs.Prelude.{cond, List, ℕ, ltb, length}
-use Rattle.plan.specs.declared.Answer.{Answer}
-use Rattle.plan.specs.declared.Answer.TheVariants.{Done}
+use Rattle.refusal.specs.Answer.{Answer, Done}
 use Rattle.file.specs.Layout.{most_file}
 use Rattle.plan.specs.Written.{plan_bytes}
 use Rattle.state.specs.Read.{plan_in}

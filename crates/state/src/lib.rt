@@ -4,14 +4,17 @@
 ghost use Rattle.std.specs.Prelude.{◌≡◌, ◌&&◌, [], ◌∷◌, ◌+◌, ◌≤◌, ◌<◌, eqb, length, get_or, set};
 ghost use Rattle.std.proofs.lemmas.List.Edits.{sets};
 ghost use Rattle.laws.specs.Grid.{cell_index};
-ghost use Rattle.flow.specs.Plan.{most_size, most_flows};
+ghost use Rattle.flow.specs.Plan.{most_size, most_flows, flow_at};
 ghost use Rattle.state.specs.Layout.{header_size, clock_place, flow_size, number_size, register_size, router_size, flow_place, router_place, state_size};
 ghost use Rattle.state.specs.Inner.{most_routers, flow_of};
 ghost use Rattle.state.specs.Words.{number_words, tally_words, register_words};
-ghost use Rattle.state.specs.Read.{flow_in, tally_in, register_in, cell_in};
+ghost use Rattle.state.specs.State.{tally_at, cell_at};
+ghost use Rattle.state.specs.Read.{sx_in, sy_in, count_in, clock_in, flow_in, tally_in, register_in, cell_in, state_of};
+ghost use Rattle.state.specs.Facts.{StateFacts};
 
 use bucket::Bucket;
 use flow::Flow;
+use std::marker::Model;
 
 // The words in front of the flows: Sx, Sy, F, clock, four zeros.
 pub const HEADER_SIZE: usize = 8;
@@ -44,31 +47,118 @@ pub const MOST_ROUTERS: usize = 256;
 // The clock of the last state.
 pub const LAST_CLOCK: u32 = 4294967295;
 
-// A link register read from the words: empty, or one packet.
-#[derive(Clone, Copy)]
-pub enum Register {
-    Empty,
-    Packet {
-        flow: u32,
-        serial: u32,
-        entry: u32,
-        deflections: u32,
-    },
+// A packet in flight, as a link register has it.
+#[derive(Clone, Copy, Debug, PartialEq, Eq)]
+pub struct Packet {
+    pub flow: u32,
+    pub serial: u32,
+    pub entry: u32,
+    pub deflections: u32,
 }
 
-// The link registers of a router.
-#[derive(Clone, Copy)]
+// The link registers of a router: each is empty, or has one packet.
+#[derive(Clone, Copy, Debug, PartialEq, Eq)]
 pub struct Cell {
-    pub west: Register,
-    pub north: Register,
+    pub west: Option<Packet>,
+    pub north: Option<Packet>,
 }
 
 // A flow's bucket, entered and waiting.
-#[derive(Clone, Copy)]
+#[derive(Clone, Copy, Debug, PartialEq, Eq)]
 pub struct Tally {
     pub bucket: Bucket,
     pub entered: u32,
     pub waiting: u32,
+}
+
+// Words that form a state, lent to be read; seen as those words.
+#[derive(Drop)]
+pub struct StateWords<'a> {
+    words: &'a [u32],
+}
+
+impl<'a> Model for StateWords<'a> {
+    ghost use Rattle.std.specs.Prelude.{List, ℕ};
+    ghost use Rattle.state.specs.Facts.{StateFacts};
+
+    ghost Value = { List ℕ };
+
+    ghost view = { λ s. s.words.now };
+
+    ghost invariant = { λ s. StateFacts s.words.now };
+}
+
+impl StateWords<'_> {
+    pub fn of(words: &[u32]) -> StateWords<'_>
+        requires { StateFacts words.now }
+        ensures { result ≡ words.now }
+    {
+        StateWords { words }
+    }
+
+    pub fn words(&self) -> &[u32]
+        ensures value { result.now ≡ self.now }
+        ensures facts { StateFacts self.now }
+    {
+        self.words
+    }
+
+    pub fn sx(&self) -> u32
+        ensures value { result ≡ sx_in self.now }
+        ensures facts { StateFacts self.now }
+    {
+        self.words[SX]
+    }
+
+    pub fn sy(&self) -> u32
+        ensures value { result ≡ sy_in self.now }
+        ensures facts { StateFacts self.now }
+    {
+        self.words[SY]
+    }
+
+    // The count of flows F.
+    pub fn flows(&self) -> u32
+        ensures value { result ≡ count_in self.now }
+        ensures facts { StateFacts self.now }
+    {
+        self.words[FLOWS]
+    }
+
+    pub fn clock(&self) -> u32
+        ensures value { result ≡ clock_in self.now }
+        ensures facts { StateFacts self.now }
+    {
+        self.words[CLOCK]
+    }
+
+    // The plan numbers of flow f.
+    pub fn flow(&self, f: u32) -> Flow
+        requires { f < count_in self.now }
+        ensures value { result ≡ flow_at (state_of self.now).plan f }
+        ensures facts { StateFacts self.now }
+    {
+        flow_in(self.words, flow_place(f as usize))
+    }
+
+    // Its bucket, entered and waiting.
+    pub fn tally(&self, f: u32) -> Tally
+        requires { f < count_in self.now }
+        ensures value { result ≡ tally_at (state_of self.now) f }
+        ensures facts { StateFacts self.now }
+    {
+        tally_in(self.words, flow_place(f as usize))
+    }
+
+    // The registers of the router in column x and row y.
+    pub fn cell(&self, x: u32, y: u32) -> Cell
+        requires { (x < sx_in self.now) × (y < sy_in self.now) }
+        ensures value { result ≡ cell_at (state_of self.now) x y }
+        ensures facts { StateFacts self.now }
+    {
+        let flows = self.words[FLOWS] as usize;
+        cell_in(self.words, router_place(flows, self.words[SX], x, y))
+    }
 }
 
 // Where the words of flow f stand; behind those of the last flow, the registers.
@@ -145,20 +235,20 @@ pub fn entered_in(w: &[u32], at: usize) -> u32
 }
 
 // The register at a place.
-pub fn register_at(w: &[u32], at: usize) -> Register
+pub fn register_at(w: &[u32], at: usize) -> Option<Packet>
     requires { at + register_size ≤ length w.now }
     ensures { result ≡ register_in w.now at }
 {
     let flow = w[at];
     if flow == 0 {
-        return Register::Empty;
+        return None;
     }
-    Register::Packet {
+    Some(Packet {
         flow: flow - 1,
         serial: w[at + 1],
         entry: w[at + 2],
         deflections: w[at + 3],
-    }
+    })
 }
 
 // Both registers of the router at a place.
@@ -166,9 +256,10 @@ pub fn cell_in(w: &[u32], at: usize) -> Cell
     requires { at + router_size ≤ length w.now }
     ensures { result ≡ cell_in w.now at }
 {
-    let west = register_at(w, at);
-    let north = register_at(w, at + REGISTER_SIZE);
-    Cell { west, north }
+    Cell {
+        west: register_at(w, at),
+        north: register_at(w, at + REGISTER_SIZE),
+    }
 }
 
 // Neither register of the router at a place has a packet.
@@ -191,18 +282,13 @@ pub fn put_four(w: &mut [u32], at: usize, a: u32, b: u32, c: u32, d: u32)
 }
 
 // Writes the words of a register at a place.
-pub fn put_register(w: &mut [u32], at: usize, r: Register)
+pub fn put_register(w: &mut [u32], at: usize, r: Option<Packet>)
     requires { (at + register_size ≤ length w.old) × (flow_of r + 1 < 4294967296) }
     ensures { w.new ≡ sets w.old at (register_words r) }
 {
     match r {
-        Register::Empty => put_four(w, at, 0, 0, 0, 0),
-        Register::Packet {
-            flow,
-            serial,
-            entry,
-            deflections,
-        } => put_four(w, at, flow + 1, serial, entry, deflections),
+        None => put_four(w, at, 0, 0, 0, 0),
+        Some(p) => put_four(w, at, p.flow + 1, p.serial, p.entry, p.deflections),
     }
 }
 
@@ -221,8 +307,7 @@ pub fn put_tally(w: &mut [u32], at: usize, t: Tally)
     requires { at + flow_size ≤ length w.old }
     ensures { w.new ≡ sets w.old (at + number_size) (tally_words t) }
 {
-    let b = t.bucket;
-    put_four(w, at + TOKENS, b.tokens, b.count, t.entered, t.waiting);
+    put_four(w, at + TOKENS, t.bucket.tokens, t.bucket.count, t.entered, t.waiting);
 }
 
 // Writes the clock.

@@ -4,7 +4,7 @@ use Rattle.std.specs.Prelude.{List, ◌≡◌, ℕ, ◌+◌, ◌*◌, ◌≤◌,
 use Rattle.std.proofs.lemmas.List.Edits.{sets}
 use Rattle.laws.specs.Turns.{turns}
 use Rattle.flow.specs.Limits.{last_clock, exit_size}
-use Rattle.plan.specs.declared.Answer.TheVariants.{Done}
+use Rattle.refusal.specs.Answer.{Done}
 use Rattle.router.specs.Delivery.{words_of}
 use Rattle.state.specs.Layout.{clock_place, flow_place}
 use Rattle.state.specs.Words.{state_words}

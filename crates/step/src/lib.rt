@@ -3,32 +3,31 @@
 
 ghost use Rattle.std.specs.Prelude.{◌≡◌, ◌+◌, ◌*◌, ◌<◌, ◌≤◌, length, take};
 ghost use Rattle.std.proofs.lemmas.List.Edits.{sets};
+ghost use Rattle.refusal.specs.Answer.{told_value, number_in};
 ghost use Rattle.state.specs.Words.{state_words};
 ghost use Rattle.state.specs.Read.{count_in, state_of};
 ghost use Rattle.state.specs.Outcome.{outcome, lent, over};
 ghost use Rattle.flow.specs.Limits.{step_number};
 ghost use Rattle.router.specs.Delivery.{words_of};
-ghost use Rattle.state.specs.Facts.{StateFacts};
 ghost use Rattle.entry.specs.Entrants.{Entrants, AllEntered};
 ghost use Rattle.routing.specs.Walk.{registers_in, pushed_all};
 ghost use Rattle.step.specs.Next.{Stepping, Judged, Room, next_words};
 ghost use Rattle.cycle.specs.Step.{step_state, deliveries, step_on};
 
-use plan::Answer;
+use refusal::{Cause, Refusal};
+use state::StateWords;
 
 // Copies n words to a place.
 fn copy(from: &[u32], to: &mut [u32], at: usize, n: usize)
     requires { (n ≤ length from.now) × (at + n ≤ length to.old) }
     ensures { to.new ≡ sets to.old at (take n from.now) }
 {
-    for i in 0..n {
-        to[at + i] = from[i];
-    }
+    to[at..at + n].copy_from_slice(&from[..n]);
 }
 
 // Who enters, the next registers and the exits' words; the count of exits.
 fn find_next(
-    state: &[u32],
+    state: &StateWords,
     entrants: &mut [u32],
     registers: &mut [u32],
     delivery: &mut [u32],
@@ -74,7 +73,7 @@ pub fn advance_in(
     ensures value { result ≡ length (deliveries (state_of state.old)) }
     ensures delivery_after { delivery.new ≡ over (words_of (deliveries (state_of state.old))) delivery.old }
 {
-    let exits = find_next(state, entrants, registers, delivery);
+    let exits = find_next(&StateWords::of(state), entrants, registers, delivery);
     store_next(state, entrants, registers);
     exits
 }
@@ -102,40 +101,31 @@ fn advance(state: &mut [u32], delivery: &mut [u32]) -> u32
     advance_in(state, &mut entrants, &mut registers, delivery)
 }
 
-// The refusal of a step after the state's own, or 0, with so many words of delivery memory.
-pub fn step_number(state: &[u32], room: usize) -> u32
-    requires { StateFacts state.now }
-    ensures { result ≡ step_number (state_of state.now).plan room (state_of state.now).clock }
+// What a step is refused for after the state's own, with so many words of delivery memory.
+pub fn check_room(state: &StateWords, room: usize) -> Result<(), Cause>
+    ensures { number_in result ≡ step_number (state_of state.now).plan room (state_of state.now).clock }
 {
-    let routers = (state[state::SX] * state[state::SY]) as usize;
+    let routers = (state.sx() * state.sy()) as usize;
     if room < cycle::EXIT_SIZE * routers {
-        return 10;
+        return Err(Cause::DeliveryShort);
     }
-    if state[state::CLOCK] == state::LAST_CLOCK {
-        return 11;
+    if state.clock() == state::LAST_CLOCK {
+        return Err(Cause::LastClock);
     }
-    0
+    Ok(())
 }
 
-// What refuses a step: the state's number, then the step's own; 0 if nothing does.
-pub fn refusal(state: &[u32], delivery: &[u32]) -> u32
-    ensures { Judged state.now delivery.now result }
+// What refuses a step: the state's causes, then the step's own.
+pub fn check_step(state: &[u32], delivery: &[u32]) -> Result<(), Cause>
+    ensures { Judged state.now delivery.now (number_in result) }
 {
-    let number = valid::state_number(state);
-    if number != 0 {
-        return number;
-    }
-    step_number(state, delivery.len())
+    check_room(&valid::read_state(state)?, delivery.len())
 }
 
 // One cycle of the torus: the count of exits, or the refusal.
-pub fn step(state: &mut [u32], delivery: &mut [u32]) -> Answer
-    ensures { outcome result (lent state.new delivery.new) ≡ step_on state.old delivery.old }
+pub fn step(state: &mut [u32], delivery: &mut [u32]) -> Result<u32, Refusal>
+    ensures { outcome (told_value result) (lent state.new delivery.new) ≡ step_on state.old delivery.old }
 {
-    let number = refusal(state, delivery);
-    if number != 0 {
-        return Answer::Refused { number, place: 0 };
-    }
-    let exits = advance(state, delivery);
-    Answer::Done(exits)
+    check_step(state, delivery)?;
+    Ok(advance(state, delivery))
 }

@@ -2,6 +2,7 @@
 #![tactic(auto)]
 
 ghost use Rattle.std.specs.Prelude.{◌≡◌, ◌++◌, ◌*◌, ◌≤◌, length, take, drop};
+ghost use Rattle.refusal.specs.Answer.{told_value, number_in};
 ghost use Rattle.flow.specs.Limits.{exit_size, most_delivered, used_room};
 ghost use Rattle.router.specs.Delivery.{words_of};
 ghost use Rattle.state.specs.Words.{state_words};
@@ -13,7 +14,8 @@ ghost use Rattle.cycle.specs.Steps.{steps_on};
 ghost use Rattle.cycle.specs.Progress.{progress, Reached};
 ghost use Rattle.steps.specs.Loop.{Checked, Rooms, number_behind, Behind, FreeBehind, Turned, AllZero};
 
-use plan::Answer;
+use refusal::{Cause, Refusal};
+use state::StateWords;
 
 // The most words of delivery memory that the steps use: an answer counts their exits.
 fn most_delivered() -> usize
@@ -22,22 +24,19 @@ fn most_delivered() -> usize
     21474836475
 }
 
-// The refusal of a step that delivers behind so many exits, or 0.
-fn next_number(state: &[u32], delivery: &[u32], exits: u32) -> u32
+// What a step that delivers behind so many exits is refused for.
+fn check_next(state: &[u32], delivery: &[u32], exits: u32) -> Result<(), Cause>
     requires { Behind state.now delivery.now exits }
-    ensures { result ≡ number_behind state.now delivery.now exits }
+    ensures { number_in result ≡ number_behind state.now delivery.now exits }
 {
-    step::step_number(state, delivery.len() - cycle::EXIT_SIZE * (exits as usize))
+    step::check_room(&StateWords::of(state), delivery.len() - cycle::EXIT_SIZE * (exits as usize))
 }
 
 // Makes every word 0.
 fn clear(l: &mut [u32])
     ensures { AllZero l.new }
 {
-    let n = l.len();
-    for i in 0..n {
-        l[i] = 0;
-    }
+    l.fill(0);
 }
 
 // A step that delivers behind so many exits, with room for the entrants and for the next registers: how many more.
@@ -117,8 +116,8 @@ pub fn advance_many(
     let mut left = cycles;
     let mut may_leap = true;
     while 0 < left {
-        if next_number(state, delivery, exits) != 0 {
-            return exits;
+        if check_next(state, delivery, exits).is_err() {
+            break;
         }
         let t = take_turn(state, entrants, registers, delivery, exits, left, may_leap);
         may_leap = exits < t.exits;
@@ -164,13 +163,9 @@ fn advance_front(state: &mut [u32], delivery: &mut [u32], cycles: u32) -> u32
 }
 
 // So many cycles of the torus, or as many as memory and clock allow: the count of all exits, or the refusal of a step at the start.
-pub fn steps(state: &mut [u32], delivery: &mut [u32], cycles: u32) -> Answer
-    ensures { outcome result (lent state.new delivery.new) ≡ steps_on state.old delivery.old cycles }
+pub fn steps(state: &mut [u32], delivery: &mut [u32], cycles: u32) -> Result<u32, Refusal>
+    ensures { outcome (told_value result) (lent state.new delivery.new) ≡ steps_on state.old delivery.old cycles }
 {
-    let number = step::refusal(state, delivery);
-    if number != 0 {
-        return Answer::Refused { number, place: 0 };
-    }
-    let exits = advance_front(state, delivery, cycles);
-    Answer::Done(exits)
+    step::check_step(state, delivery)?;
+    Ok(advance_front(state, delivery, cycles))
 }

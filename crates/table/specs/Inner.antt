@@ -2,8 +2,8 @@
 use Rattle.std.specs.Prelude.{◌≡◌, ℕ, ◌≤◌}
 use Rattle.flow.specs.declared.Flow.{Flow}
 use Rattle.flow.specs.Plan.{most_period}
-use Rattle.window.specs.declared.Window.{Window}
-use Rattle.window.specs.declared.Window.TheVariants.{At}
+use Rattle.window.specs.Window.{Window}
+use Rattle.std.specs.Prelude.{Some}
 use Rattle.window.specs.Window.{most_window}
 
 -- the digits of a 32-bit number
@@ -25,4 +25,4 @@ most_table = 16448
 pub record WaitFits (f : Flow) (window : Window) : Type 0 where
   pub period_least : 1 ≤ f.period
   pub period_most : f.period ≤ most_period
-  pub window_fits : (T : ℕ) → window ≡ At T → (1 ≤ T) × (T ≤ most_window)
+  pub window_fits : (T : ℕ) → window ≡ Some T → (1 ≤ T) × (T ≤ most_window)

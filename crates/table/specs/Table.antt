@@ -6,12 +6,11 @@ use Rattle.flow.specs.declared.Port.{Port}
 use Rattle.flow.specs.declared.Port.TheVariants.{East, South}
 use Rattle.flow.specs.Offsets.{port_of}
 use Rattle.flow.specs.Plan.{Plan, flow_at}
-use Rattle.plan.specs.declared.Answer.{Answer}
-use Rattle.plan.specs.declared.Answer.TheVariants.{Done, Refused}
+use Rattle.refusal.specs.Answer.{Answer, Done, Refused}
 use Rattle.file.specs.Layout.{plan_of}
 use Rattle.plan.specs.Refusals.{plan_answer}
-use Rattle.window.specs.declared.Window.{Window}
-use Rattle.window.specs.declared.Window.TheVariants.{At, Nothing}
+use Rattle.window.specs.Window.{Window}
+use Rattle.std.specs.Prelude.{Some, None}
 use Rattle.window.specs.Window.{window_of, lone_wait}
 use Rattle.flight.specs.Flight.{flight_bound}
 use Rattle.table.specs.Decimal.{decimal}
@@ -35,8 +34,8 @@ port_field South = 32 ∷ 83 ∷ []
 
 -- what T gives, or `-` on 14
 abbrev pub window_field : (given : ℕ → ℕ) → Window → List ℕ
-window_field given (At T) = field (given T)
-window_field given Nothing = no_field
+window_field given (Some T) = field (given T)
+window_field given None = no_field
 
 -- number, port, T, flight bound, lone wait
 unfoldable pub row : ℕ → Flow → Port → Window → ℕ → List ℕ

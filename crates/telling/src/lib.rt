@@ -2,6 +2,7 @@
 #![tactic(auto)]
 
 ghost use Rattle.std.specs.Prelude.{◌≡◌, ◌≤◌, length};
+ghost use Rattle.refusal.specs.Answer.{told_value};
 ghost use Rattle.router.specs.Delivery.{words_of};
 ghost use Rattle.state.specs.Words.{state_words};
 ghost use Rattle.state.specs.Read.{count_in, state_of};
@@ -11,7 +12,8 @@ ghost use Rattle.cycle.specs.Reasons.{telling, words_on, step_reasons_on};
 ghost use Rattle.entry.specs.Entrants.{Entrants};
 ghost use Rattle.step.specs.Next.{Stepping, Room};
 
-use plan::Answer;
+use refusal::{Cause, Refusal};
+use state::StateWords;
 
 // One cycle, and before it each flow's reason, with room of its own for the entrants.
 fn tell_in(
@@ -30,7 +32,7 @@ fn tell_in(
     ensures delivery_after { delivery.new ≡ over (words_of (deliveries (state_of state.old))) delivery.old }
     ensures reasons_after { reasons.new ≡ over (words_on (state_of state.old)) reasons.old }
 {
-    reasons::tell(state, told, reasons);
+    reasons::tell(&StateWords::of(state), told, reasons);
     step::advance_in(state, entrants, registers, delivery)
 }
 
@@ -64,20 +66,17 @@ fn advance_telling(state: &mut [u32], delivery: &mut [u32], reasons: &mut [u32])
 }
 
 // One cycle that also tells why each flow didn't enter, judged before it.
-pub fn step_reasons(state: &mut [u32], delivery: &mut [u32], reasons: &mut [u32]) -> Answer
-    ensures { outcome result (telling (lent state.new delivery.new) reasons.new)
+pub fn step_reasons(
+    state: &mut [u32],
+    delivery: &mut [u32],
+    reasons: &mut [u32],
+) -> Result<u32, Refusal>
+    ensures { outcome (told_value result) (telling (lent state.new delivery.new) reasons.new)
         ≡ step_reasons_on state.old delivery.old reasons.old }
 {
-    let number = step::refusal(state, delivery);
-    if number != 0 {
-        return Answer::Refused { number, place: 0 };
-    }
+    step::check_step(state, delivery)?;
     if reasons.len() < state[state::FLOWS] as usize {
-        return Answer::Refused {
-            number: 19,
-            place: 0,
-        };
+        return Err(Cause::ReasonsShort.into());
     }
-    let exits = advance_telling(state, delivery, reasons);
-    Answer::Done(exits)
+    Ok(advance_telling(state, delivery, reasons))
 }

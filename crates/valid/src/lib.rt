@@ -1,7 +1,8 @@
 // When words form a state, and what a call on a state refuses first: 8 and 9. Rests on registers.
 #![tactic(auto)]
 
-ghost use Rattle.std.specs.Prelude.{true, ◌≡◌, ◌≤◌, ◌<◌, length};
+ghost use Rattle.std.specs.Prelude.{true, ◌≡◌, ◌≤◌, ◌<◌, IfOk, length};
+ghost use Rattle.refusal.specs.Answer.{number_in};
 ghost use Rattle.laws.specs.Bounded.{all_below};
 ghost use Rattle.flow.specs.Offsets.{ΔX};
 ghost use Rattle.state.specs.Layout.{header_size, flow_place};
@@ -10,50 +11,34 @@ ghost use Rattle.state.specs.Forms.{header_fits, numbers_fit, tally_fits, flow_f
 ghost use Rattle.state.specs.Facts.{HeaderFacts, Headed, FlowOf, FlowFacts, ColumnOffsets};
 
 use flow::Flow;
-use state::Tally;
+use refusal::Cause;
+use state::{StateWords, Tally};
 
 // The first eight words are those of a state.
 fn header_fits(w: &[u32]) -> bool
     requires { header_size ≤ length w.now }
     ensures { result ≡ header_fits w.now }
 {
-    if !plan::size_ok(w[state::SX]) {
-        return false;
-    }
-    if !plan::size_ok(w[state::SY]) {
-        return false;
-    }
-    if !registers::in_range(w[state::FLOWS], plan::MOST_FLOWS) {
-        return false;
-    }
-    registers::four_zero(w, state::ZEROS)
+    plan::size_ok(w[state::SX])
+        && plan::size_ok(w[state::SY])
+        && registers::in_range(w[state::FLOWS], plan::MOST_FLOWS)
+        && registers::four_zero(w, state::ZEROS)
 }
 
 // A flow's plan numbers lie in their ranges.
 fn numbers_fit(sx: u32, sy: u32, f: Flow) -> bool
     ensures { result ≡ numbers_fit sx sy f }
 {
-    if !f.on_torus(sx, sy) {
-        return false;
-    }
-    if !registers::in_range(f.period, flow::MOST_PERIOD) {
-        return false;
-    }
-    registers::in_range(f.burst, flow::MOST_BURST)
+    f.on_torus(sx, sy)
+        && registers::in_range(f.period, flow::MOST_PERIOD)
+        && registers::in_range(f.burst, flow::MOST_BURST)
 }
 
 // A flow's bucket, entered and waiting are those of a state.
 fn tally_fits(clock: u32, f: Flow, t: Tally) -> bool
     ensures { result ≡ tally_fits clock f t }
 {
-    let b = t.bucket;
-    if !b.fits(f.burst, f.period) {
-        return false;
-    }
-    if flow::MOST_WAITING < t.waiting {
-        return false;
-    }
-    t.entered <= clock
+    t.bucket.fits(f.burst, f.period) && t.waiting <= flow::MOST_WAITING && t.entered <= clock
 }
 
 // The words of flow f are those of a state.
@@ -63,10 +48,8 @@ fn flow_fits(w: &[u32], f: usize) -> bool
 {
     let at = state::flow_place(f);
     let flow = state::flow_in(w, at);
-    if !numbers_fit(w[state::SX], w[state::SY], flow) {
-        return false;
-    }
-    tally_fits(w[state::CLOCK], flow, state::tally_in(w, at))
+    numbers_fit(w[state::SX], w[state::SY], flow)
+        && tally_fits(w[state::CLOCK], flow, state::tally_in(w, at))
 }
 
 // ΔX of flow f, which fits a byte.
@@ -100,10 +83,7 @@ fn rest_fits(w: &[u32]) -> bool
     ensures { result ≡ rest_fits w.now }
 {
     let mut dxs = [0u8; plan::MOST_FLOWS as usize];
-    if !flows_fit(w, &mut dxs) {
-        return false;
-    }
-    registers::rows_fit(w, &dxs)
+    flows_fit(w, &mut dxs) && registers::rows_fit(w, &dxs)
 }
 
 // The size that the header asks for.
@@ -114,22 +94,31 @@ fn size_in(w: &[u32]) -> usize
     state::size(w[state::FLOWS] as usize, w[state::SX], w[state::SY])
 }
 
-// 0 for words that form a state, otherwise 8 or 9: what every call on a state refuses first.
-pub fn state_number(w: &[u32]) -> u32
-    ensures { result ≡ state_number w.now }
+// What every call on a state refuses first: nothing where the words form one.
+pub fn check_state(w: &[u32]) -> Result<(), Cause>
+    ensures { number_in result ≡ state_number w.now }
 {
     let length = w.len();
     if length < state::HEADER_SIZE {
-        return 8;
+        return Err(Cause::StateShort);
     }
     if !header_fits(w) {
-        return 9;
+        return Err(Cause::NoState);
     }
     if length < size_in(w) {
-        return 8;
+        return Err(Cause::StateShort);
     }
     if !rest_fits(w) {
-        return 9;
+        return Err(Cause::NoState);
     }
-    0
+    Ok(())
+}
+
+// The words as those of a state, or what every call on a state refuses first.
+pub fn read_state(w: &[u32]) -> Result<StateWords<'_>, Cause>
+    ensures number { number_in result ≡ state_number w.now }
+    ensures words { IfOk result (λ s. s ≡ w.now) }
+{
+    check_state(w)?;
+    Ok(StateWords::of(w))
 }

@@ -16,25 +16,24 @@ use Rattle.flow.specs.Plan.{Plan, flow_at}
 use Rattle.bucket.proofs.Curve.{curve_span}
 use Rattle.turning.specs.Turning.{is_turning}
 use Rattle.turning.proofs.Turning.{south_most}
-use Rattle.conflict.specs.declared.Conflict.{Conflict}
-use Rattle.conflict.specs.declared.Conflict.TheVariants.{Free, Spread}
+use Rattle.conflict.specs.Conflict.{Conflict}
+use Rattle.std.specs.Prelude.{Some, None}
 use Rattle.conflict.specs.Conflict.{rows_to, columns_to, laps, conflict_east, conflict_south, conflict_by, conflict}
-use Rattle.window.specs.declared.Window.TheVariants.{At}
 use Rattle.window.specs.Window.{share, share_of, interference, least_from, most_window, window_of}
 use Rattle.window.specs.Before.{east_before, south_before, conflict_before, share_before, interference_before, window_before, NoWindowGrows}
 use Rattle.window.proofs.Least.{at_least}
 
 -- no conflict where there was none, and no larger spread
 data Narrower : Conflict → Conflict → Type 0 where
-  free : {c : Conflict} → Narrower Free c
-  less : {i j : ℕ} → i ≤ j → Narrower (Spread i) (Spread j)
+  free : {c : Conflict} → Narrower None c
+  less : {i j : ℕ} → i ≤ j → Narrower (Some i) (Some j)
 
 either : (b : Bool) {c c' d d' : Conflict} → Narrower c c' → Narrower d d' → Narrower (cond b c d) (cond b c' d')
 either true h k = h
 either false h k = k
 
 -- with one test more
-fewer : (a t : Bool) {c c' : Conflict} → Narrower c c' → Narrower (cond (a && t) c Free) (cond a c' Free)
+fewer : (a t : Bool) {c c' : Conflict} → Narrower c c' → Narrower (cond (a && t) c None) (cond a c' None)
 fewer true true h = h
 fewer true false h = free
 fewer false t h = free
@@ -84,7 +83,7 @@ unfolding interference interference_before
 interference_less p f t = sum_mono (share_of p f t) (share_before p f t) (length p.flows) (λ g l. flow_less p f t g)
 
 -- the least window is at most any window of its range
-least_most : (I : ℕ → ℕ) (n s t : ℕ) → s ≤ t → t < s + n → I t < t → (T : ℕ) × ((least_from I n s ≡ At T) × (T ≤ t))
+least_most : (I : ℕ → ℕ) (n s t : ℕ) → s ≤ t → t < s + n → I t < t → (T : ℕ) × ((least_from I n s ≡ Some T) × (T ≤ t))
 unfolding least_from
 least_most I zero s t l m h = absurd (omega arith)
 least_most I (suc n) s t l m h =

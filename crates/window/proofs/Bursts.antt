@@ -10,7 +10,7 @@ use native.Mathlib.Omega.{arith}
 use borrow.Author.Tests.{leb-true, leb-false, le-leb, lt-leb}
 use lib.Dec.{ltb, leb}
 use Rattle.laws.proofs.Cases.{test}
-use Rattle.window.specs.declared.Window.TheVariants.{At, Nothing}
+use Rattle.std.specs.Prelude.{Some, None}
 use Rattle.window.specs.Window.{least_from, least_that, least_window, most_window}
 
 -- k packets and the I(t) of others go into t cycles
@@ -30,7 +30,7 @@ pub record Least (I : ℕ → ℕ) (k n s t : ℕ) : Type 0 where
 
 module _ (I : ℕ → ℕ) (k : ℕ) where
   -- the search finds the least window
-  pub least_at : (n s t : ℕ) → Least I k n s t → least_that (goes_in I k) n s ≡ At t
+  pub least_at : (n s t : ℕ) → Least I k n s t → least_that (goes_in I k) n s ≡ Some t
   unfolding least_that
   least_at zero s t h = absurd (omega arith)
   least_at (suc n) s t h =
@@ -42,7 +42,7 @@ module _ (I : ℕ → ℕ) (k : ℕ) where
       ]
 
   -- it finds nothing where no number is a window
-  pub least_none : (n s : ℕ) → Tried I k s (s + n) → least_that (goes_in I k) n s ≡ Nothing
+  pub least_none : (n s : ℕ) → Tried I k s (s + n) → least_that (goes_in I k) n s ≡ None
   unfolding least_that
   least_none zero s h = refl
   least_none (suc n) s h =
@@ -53,13 +53,13 @@ module _ (I : ℕ → ℕ) (k : ℕ) where
   tried_first s t here h u l m = elim (eq-or-lt_of_le l) [ inl same ↦ rw same at here | inr after ↦ h u (omega arith) m ]
 
   -- what it finds is the least window
-  pub at_least : (n s t : ℕ) → least_that (goes_in I k) n s ≡ At t → Least I k n s t
+  pub at_least : (n s t : ℕ) → least_that (goes_in I k) n s ≡ Some t → Least I k n s t
   unfolding least_that
   at_least zero s t e = let never : ◌≡◌ {A = ℕ} 0 1 = cc in absurd (omega arith)
   at_least (suc n) s t e =
       elim (test (goes_in I k s)) [
         | inl free ↦
-            let found : At s ≡ At t = rw free at e in
+            let found : Some s ≡ Some t = rw free at e in
             let same : s ≡ t = cc in
             record { from = omega arith; to = omega arith; free = rw same at (leb-true (I s + k) s free); tried = λ u l m. absurd (omega arith) }
         | inr taken ↦
@@ -69,7 +69,7 @@ module _ (I : ℕ → ℕ) (k : ℕ) where
       ]
 
   -- the least window is at most any window of its range
-  pub least_most : (n s t : ℕ) → s ≤ t → t < s + n → I t + k ≤ t → (T : ℕ) × ((least_that (goes_in I k) n s ≡ At T) × (T ≤ t))
+  pub least_most : (n s t : ℕ) → s ≤ t → t < s + n → I t + k ≤ t → (T : ℕ) × ((least_that (goes_in I k) n s ≡ Some T) × (T ≤ t))
   unfolding least_that
   least_most zero s t l m h = absurd (omega arith)
   least_most (suc n) s t l m h =

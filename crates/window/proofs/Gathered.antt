@@ -10,12 +10,11 @@ use Rattle.laws.specs.Bounded.{sum_below}
 use Rattle.laws.proofs.Sum.{sum_none, sum_more, sum_grow}
 use Rattle.flow.specs.Plan.{Plan, flow_at}
 use Rattle.flow.specs.Ranges.{PlanOk}
-use Rattle.conflict.specs.declared.Conflict.{Conflict}
-use Rattle.conflict.specs.declared.Conflict.TheVariants.{Free, Spread}
+use Rattle.conflict.specs.Conflict.{Conflict}
+use Rattle.std.specs.Prelude.{Some, None}
 use Rattle.conflict.specs.Conflict.{conflict}
 use Rattle.window.specs.Window.{share, share_of, interference, least_from, most_window, window_of, least_window, burst_window_of}
 use Rattle.window.specs.declared.Kept.{Kept}
-use Rattle.window.specs.declared.Window.TheVariants.{Nothing}
 use Rattle.window.specs.Rivals.{rival_words, whole_link, demand_of, RivalsAmong, Gathered, keep_rival}
 use Rattle.conflict.proofs.Spread.{SpreadMost, none, some, conflict_most}
 use Rattle.window.proofs.Rivals.{demand_none, with_demand, with_ok}
@@ -53,12 +52,12 @@ module _ (p : Plan) (f m : ℕ) (l : List ℕ) (k : Kept) (h : RivalsAmong p f m
   n = k.count
 
   -- where their rates fill the link there is none for any packet, whatever flows are left
-  pub burst_filled : (packets : ℕ) → 1 ≤ packets → m ≤ length p.flows → whole_link ≤ k.rates → burst_window_of p f packets ≡ Nothing
+  pub burst_filled : (packets : ℕ) → 1 ≤ packets → m ≤ length p.flows → whole_link ≤ k.rates → burst_window_of p f packets ≡ None
   unfolding interference
   burst_filled packets least below full =
       burst_none p f packets (λ t from to. omega (arith, filled _ t _ (h.paced t from) full, h.sum t, sum_grow (share_of p f t) m _ below))
 
-  pub among_filled : m ≤ length p.flows → whole_link ≤ k.rates → window_of p f ≡ Nothing
+  pub among_filled : m ≤ length p.flows → whole_link ≤ k.rates → window_of p f ≡ None
   among_filled below full = sym (burst_one p f) ∙ burst_filled 1 (omega arith) below full
 
   -- a flow is no rival of its own
@@ -83,7 +82,7 @@ module _ (p : Plan) (f m : ℕ) (l : List ℕ) (k : Kept) (h : RivalsAmong p f m
     among_by : (c : Conflict) → conflict p (flow_at p f) (flow_at p m) ≡ c → SpreadMost c
         → let k' = keep_rival l k (flow_at p m) c in RivalsAmong p f (m + 1) k'.words k'.kept
     unfolding share
-    among_by Free e none =
+    among_by None e none =
         record {
           words = h.words;
           few = omega (arith, h.few);
@@ -92,7 +91,7 @@ module _ (p : Plan) (f m : ℕ) (l : List ℕ) (k : Kept) (h : RivalsAmong p f m
           rates_most = h.rates_most;
           paced = h.paced;
         }
-    among_by (Spread j) e (some most) =
+    among_by (Some j) e (some most) =
         let g = ok.flow_ok m below in
         let few : n ≤ m = h.few in
         let all = ok.flows_most in

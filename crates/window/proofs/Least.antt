@@ -8,7 +8,7 @@ use native.Mathlib.Omega.{arith}
 use borrow.Author.Tests.{ltb-true, ltb-false, lt-ltb, le-ltb}
 use lib.Dec.{ltb}
 use Rattle.laws.proofs.Cases.{test}
-use Rattle.window.specs.declared.Window.TheVariants.{At, Nothing}
+use Rattle.std.specs.Prelude.{Some, None}
 use Rattle.window.specs.Window.{least_from}
 
 -- no number from s on and below t is a window
@@ -23,7 +23,7 @@ pub record Least (I : ℕ → ℕ) (n s t : ℕ) : Type 0 where
   pub tried : Tried I s t
 
 -- the search finds the least window
-pub least_at : (I : ℕ → ℕ) (n s t : ℕ) → Least I n s t → least_from I n s ≡ At t
+pub least_at : (I : ℕ → ℕ) (n s t : ℕ) → Least I n s t → least_from I n s ≡ Some t
 unfolding least_from
 least_at I zero s t h = absurd (omega arith)
 least_at I (suc n) s t h =
@@ -35,7 +35,7 @@ least_at I (suc n) s t h =
     ]
 
 -- it finds nothing where no number is a window
-pub least_none : (I : ℕ → ℕ) (n s : ℕ) → Tried I s (s + n) → least_from I n s ≡ Nothing
+pub least_none : (I : ℕ → ℕ) (n s : ℕ) → Tried I s (s + n) → least_from I n s ≡ None
 unfolding least_from
 least_none I zero s h = refl
 least_none I (suc n) s h =
@@ -46,13 +46,13 @@ tried_first : (I : ℕ → ℕ) (s t : ℕ) → s ≤ I s → Tried I (s + 1) t 
 tried_first I s t here h k l m = elim (eq-or-lt_of_le l) [ inl same ↦ rw same at here | inr after ↦ h k (omega arith) m ]
 
 -- what it finds is the least window
-pub at_least : (I : ℕ → ℕ) (n s t : ℕ) → least_from I n s ≡ At t → Least I n s t
+pub at_least : (I : ℕ → ℕ) (n s t : ℕ) → least_from I n s ≡ Some t → Least I n s t
 unfolding least_from
 at_least I zero s t e = let never : ◌≡◌ {A = ℕ} 0 1 = cc in absurd (omega arith)
 at_least I (suc n) s t e =
     elim (test (ltb (I s) s)) [
       | inl free ↦
-          let found : At s ≡ At t = rw free at e in
+          let found : Some s ≡ Some t = rw free at e in
           let same : s ≡ t = cc in
           record { from = omega arith; to = omega arith; free = rw same at (ltb-true (I s) s free); tried = λ k l m. absurd (omega arith) }
       | inr taken ↦

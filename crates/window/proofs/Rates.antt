@@ -5,7 +5,7 @@ use native.Mathlib.Nat.{mul-le-mul_left, mul-le-mul_right, le_of_mul-le-mul_left
 use native.Mathlib.Omega.{arith}
 use Rattle.flow.specs.declared.Flow.{Flow}
 use Rattle.bucket.proofs.Curve.{curve_pace}
-use Rattle.conflict.specs.declared.Conflict.TheVariants.{Spread}
+use Rattle.std.specs.Prelude.{Some}
 use Rattle.window.specs.Window.{share}
 use Rattle.window.specs.Rivals.{whole_link}
 
@@ -15,7 +15,7 @@ paced r P c t M span part =
     rw (mul_comm M c) (le_trans (mul-le-mul_left r span) (rw mul_left_comm (mul-le-mul_left c part)))
 
 -- the rate of a rival, in t cycles, is no more than its share of them
-flow_paces : (g : Flow) (t j : ℕ) → 1 ≤ g.burst → 1 ≤ g.period → 1 ≤ t → (whole_link / g.period) * t ≤ whole_link * share g t (Spread j)
+flow_paces : (g : Flow) (t j : ℕ) → 1 ≤ g.burst → 1 ≤ g.period → 1 ≤ t → (whole_link / g.period) * t ≤ whole_link * share g t (Some j)
 unfolding share
 flow_paces g t j burst period h =
     let pace = curve_pace g.burst g.period (t - 1 + j) burst period in
@@ -23,7 +23,7 @@ flow_paces g t j burst period h =
 
 -- rates that are no more than a demand, with a rival more
 pub pace_more : (rates demand : ℕ) (g : Flow) (t j : ℕ) → 1 ≤ g.burst → 1 ≤ g.period → 1 ≤ t → rates * t ≤ whole_link * demand
-    → (rates + whole_link / g.period) * t ≤ whole_link * (demand + share g t (Spread j))
+    → (rates + whole_link / g.period) * t ≤ whole_link * (demand + share g t (Some j))
 pace_more rates demand g t j burst period h before =
     omega (
       arith,

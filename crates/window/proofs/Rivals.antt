@@ -12,7 +12,7 @@ use Rattle.laws.proofs.Sum.{sum_none, sum_more, sum_same, sum_mono, sum_most}
 use Rattle.flow.specs.declared.Flow.{Flow}
 use Rattle.flow.specs.Plan.{most_flows, most_burst}
 use Rattle.bucket.proofs.Curve.{curve_span, curve_least, curve_most}
-use Rattle.conflict.specs.declared.Conflict.TheVariants.{Spread}
+use Rattle.std.specs.Prelude.{Some}
 use Rattle.window.specs.Window.{share, most_window}
 use Rattle.conflict.specs.Inner.{most_spread}
 use Rattle.window.specs.Rivals.{rival_words, rival_share, demand_of, RivalOk, Rivals, with_rival}
@@ -88,11 +88,11 @@ module _ (l : List ℕ) (n : ℕ) (g : Flow) (j : ℕ) (room : rival_words * n +
   share_below t k below =
       rw (with_below (rival_words * k) (omega arith), with_below (rival_words * k + 1) (omega arith), with_below (rival_words * k + 2) (omega arith))
 
-  share_last : (t : ℕ) → rival_share with_g t n ≡ share g t (Spread j)
+  share_last : (t : ℕ) → rival_share with_g t n ≡ share g t (Some j)
   unfolding rival_share share
   share_last t = rw (with_burst, with_period, with_spread)
 
-  pub with_demand : (t : ℕ) → demand_of with_g (n + 1) t ≡ demand_of l n t + share g t (Spread j)
+  pub with_demand : (t : ℕ) → demand_of with_g (n + 1) t ≡ demand_of l n t + share g t (Some j)
   unfolding demand_of
   with_demand t =
       demand_more with_g n t ∙ rw (share_last t, sum_same (rival_share with_g t) (rival_share l t) n (share_below t))

@@ -5,29 +5,28 @@ use Rattle.flow.specs.declared.Flow.{Flow}
 use Rattle.flow.specs.declared.Port.TheVariants.{East}
 use Rattle.flow.specs.Offsets.{ΔX, ΔY, port_of, same_client, same_port}
 use Rattle.flow.specs.Plan.{Plan, flow_at}
-use Rattle.conflict.specs.declared.Conflict.{Conflict}
-use Rattle.conflict.specs.declared.Conflict.TheVariants.{Free, Spread}
+use Rattle.conflict.specs.Conflict.{Conflict}
+use Rattle.std.specs.Prelude.{Some, None}
 use Rattle.conflict.specs.Conflict.{rows_to, columns_to}
-use Rattle.window.specs.declared.Window.{Window}
-use Rattle.window.specs.declared.Window.TheVariants.{At}
+use Rattle.window.specs.Window.{Window}
 use Rattle.window.specs.Window.{share, least_from, most_window, window_of}
 
 -- f's port is E and g's client is another: "r = 0 and 1 ≤ (x − xs of g) mod Sx ≤ ΔX of g, J = 0; or 1 ≤ r ≤ ΔY of g, J = (r−1)×Sx"
 unfoldable pub east_before : ℕ → ℕ → Flow → Flow → Conflict
 east_before sx sy f g =
     cond (eqb (rows_to sy f g) 0)
-    (cond (leb 1 (columns_to sx f g) && leb (columns_to sx f g) (ΔX sx g)) (Spread 0) Free)
-    (cond (leb (rows_to sy f g) (ΔY sy g)) (Spread ((rows_to sy f g - 1) * sx)) Free)
+    (cond (leb 1 (columns_to sx f g) && leb (columns_to sx f g) (ΔX sx g)) (Some 0) None)
+    (cond (leb (rows_to sy f g) (ΔY sy g)) (Some ((rows_to sy f g - 1) * sx)) None)
 
 -- f's port is S, g's client is another, "xd of g is x and r ≤ ΔY of g: J = r×Sx"
 unfoldable pub south_before : ℕ → ℕ → Flow → Flow → Conflict
 south_before sx sy f g =
-    cond (eqb g.xd f.xs && leb (rows_to sy f g) (ΔY sy g)) (Spread (rows_to sy f g * sx)) Free
+    cond (eqb g.xd f.xs && leb (rows_to sy f g) (ΔY sy g)) (Some (rows_to sy f g * sx)) None
 
 -- how g, a flow other than f, conflicts with f at f's source
 unfoldable pub conflict_before : ℕ → ℕ → Flow → Flow → Conflict
 conflict_before sx sy f g =
-    cond (same_client f g) (Spread 0)
+    cond (same_client f g) (Some 0)
     (cond (same_port (port_of sx f) East) (east_before sx sy f g) (south_before sx sy f g))
 
 -- what flow number g adds to I(t) of flow number f
@@ -44,4 +43,4 @@ window_before p f = least_from (interference_before p f) most_window 1
 
 -- no window grows: for every plan and flow, where these conflicts and spreads give a T, those of the turning rows give one that is no larger
 abbrev pub NoWindowGrows : Type 0
-NoWindowGrows = (p : Plan) (f before : ℕ) → window_before p f ≡ At before → (T : ℕ) × ((window_of p f ≡ At T) × (T ≤ before))
+NoWindowGrows = (p : Plan) (f before : ℕ) → window_before p f ≡ Some before → (T : ℕ) × ((window_of p f ≡ Some T) × (T ≤ before))

@@ -4,8 +4,8 @@ use Rattle.laws.specs.Bounded.{sum_below}
 use Rattle.flow.specs.declared.Flow.{Flow}
 use Rattle.flow.specs.Plan.{Plan, most_flows, most_burst}
 use Rattle.bucket.specs.Curve.{curve}
-use Rattle.conflict.specs.declared.Conflict.{Conflict}
-use Rattle.conflict.specs.declared.Conflict.TheVariants.{Free, Spread}
+use Rattle.conflict.specs.Conflict.{Conflict}
+use Rattle.std.specs.Prelude.{Some, None}
 use Rattle.conflict.specs.Inner.{most_spread}
 use Rattle.window.specs.declared.Kept.{Kept}
 use Rattle.window.specs.Window.{share_of}
@@ -63,6 +63,6 @@ with_rival l n g j = set (set (set l (rival_words * n) g.burst) (rival_words * n
 
 -- after the rivals kept, flow g with its conflict
 abbrev pub keep_rival : List ℕ → Kept → Flow → Conflict → Gathered
-keep_rival l k g Free = gathered k l
-keep_rival l k g (Spread j) =
+keep_rival l k g None = gathered k l
+keep_rival l k g (Some j) =
     gathered (record { count = k.count + 1; rates = k.rates + whole_link / g.period }) (with_rival l k.count g j)

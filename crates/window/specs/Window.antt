@@ -1,19 +1,20 @@
 -- The interference I(t), the least window T, a burst's window B and the lone wait (01, Windows; 02, U3, U8, U9).
-use Rattle.std.specs.Prelude.{Bool, cond, ◌≡◌, ℕ, zero, suc, ◌+◌, ◌-◌, ltb, leb, eqb, length}
+use Rattle.std.specs.Prelude.{Bool, cond, ◌≡◌, ℕ, zero, suc, ◌+◌, ◌-◌, ltb, leb, eqb, length, Option, Some, None}
 use Rattle.laws.specs.Bounded.{sum_below}
 use Rattle.flow.specs.declared.Flow.{Flow}
 use Rattle.flow.specs.Plan.{Plan, flow_at}
 use Rattle.bucket.specs.Curve.{curve}
-use Rattle.conflict.specs.declared.Conflict.{Conflict}
-use Rattle.conflict.specs.declared.Conflict.TheVariants.{Free, Spread}
-use Rattle.window.specs.declared.Window.{Window}
-use Rattle.window.specs.declared.Window.TheVariants.{At, Nothing}
+use Rattle.conflict.specs.Conflict.{Conflict}
 use Rattle.conflict.specs.Conflict.{conflict}
+
+-- the window of a flow or of a burst, or that there is none
+abbrev pub Window : Type 0
+Window = Option ℕ
 
 -- what g adds to I(t): its curve at t − 1 + J, if it conflicts with spread J
 unfoldable pub share : Flow → ℕ → Conflict → ℕ
-share g t Free = 0
-share g t (Spread J) = curve g.burst g.period (t - 1 + J)
+share g t None = 0
+share g t (Some J) = curve g.burst g.period (t - 1 + J)
 
 -- what flow number g adds to I(t) of flow number f; a flow doesn't conflict with itself
 unfoldable pub share_of : Plan → ℕ → ℕ → ℕ → ℕ
@@ -29,13 +30,13 @@ most_window = 65535
 
 -- the least t of the n numbers from t on with I t < t
 unfoldable pub least_from : (ℕ → ℕ) → ℕ → ℕ → Window
-least_from I zero t = Nothing
-least_from I (suc n) t = let later = least_from I n (t + 1) in cond (ltb (I t) t) (At t) later
+least_from I zero t = None
+least_from I (suc n) t = let later = least_from I n (t + 1) in cond (ltb (I t) t) (Some t) later
 
 -- the least of the n numbers from t on that passes the test, or Nothing where none does
 unfoldable pub least_that : (ℕ → Bool) → ℕ → ℕ → Window
-least_that passes zero t = Nothing
-least_that passes (suc n) t = let later = least_that passes n (t + 1) in cond (passes t) (At t) later
+least_that passes zero t = None
+least_that passes (suc n) t = let later = least_that passes n (t + 1) in cond (passes t) (Some t) later
 
 -- the least window t from 1 to 65,535 that passes the test, or Nothing
 abbrev pub least_window : (ℕ → Bool) → Window

@@ -4,7 +4,7 @@ use mathlib.Core.Path.{◌≡◌}
 use Prim.Native.Nat.{ℕ, ◌≤◌}
 use borrow.Author.Tests.{le-ltb}
 use lib.ListN.{length}
-use Rattle.plan.specs.declared.Answer.TheVariants.{Done}
+use Rattle.refusal.specs.Answer.{Done}
 use Rattle.file.specs.Layout.{most_file, plan_of}
 use Rattle.plan.specs.Refusals.{plan_answer}
 use Rattle.plan.specs.Notes.{notes_of}

@@ -13,7 +13,7 @@ use Rattle.laws.proofs.Stands.{length_join, sets_append}
 use Rattle.flow.specs.declared.Flow.{Flow}
 use Rattle.flow.specs.Plan.{most_size}
 use Rattle.flow.specs.Ranges.{FlowOk}
-use Rattle.plan.specs.declared.Answer.TheVariants.{Done}
+use Rattle.refusal.specs.Answer.{Done}
 use Rattle.file.specs.Layout.{record_size, trailer_size, most_file}
 use Rattle.file.specs.Bytes.{two_bytes, four_bytes}
 use Rattle.plan.specs.Written.{record_bytes, records_bytes, trailer_bytes, plan_bytes}

@@ -3,6 +3,7 @@
 
 ghost use Rattle.std.specs.Prelude.{[], ◌∷◌, ◌++◌, ◌≡◌, ◌+◌, ◌*◌, ◌%◌, ◌≤◌, length};
 ghost use Rattle.std.proofs.lemmas.List.Edits.{sets};
+ghost use Rattle.refusal.specs.Answer.{told_value};
 ghost use Rattle.flow.specs.Plan.{most_size};
 ghost use Rattle.flow.specs.Ranges.{FlowOk};
 ghost use Rattle.file.specs.Layout.{record_size, trailer_size, tag, most_file};
@@ -15,7 +16,8 @@ ghost use Rattle.state.specs.Facts.{StateFacts};
 ghost use Rattle.writing.specs.Parts.{records_in, trailer_from, file_size};
 
 use flow::Flow;
-use plan::Answer;
+use refusal::{Cause, Refusal};
+use state::StateWords;
 
 // The most bytes of a file in front of its trailer.
 const MOST_BODY: usize = 65524;
@@ -43,16 +45,15 @@ fn put_record(target: &mut [u8], at: usize, f: Flow)
 }
 
 // Writes the records of a state's flows from a place on.
-fn put_records(state: &[u32], count: usize, target: &mut [u8], start: usize)
-    requires state_facts { (StateFacts state.now) × (count ≡ count_in state.now) }
-    requires count_in_bounds { start + record_size * count ≤ length target.old }
-    ensures { target.new ≡ sets target.old start (records_in state.now count) }
+fn put_records(state: &StateWords, target: &mut [u8], start: usize)
+    requires { start + record_size * count_in state.now ≤ length target.old }
+    ensures { target.new ≡ sets target.old start (records_in state.now (count_in state.now)) }
 {
-    for f in 0..count {
+    for f in 0..state.flows() {
         put_record(
             target,
-            start + file::RECORD_SIZE * f,
-            state::flow_in(state, state::flow_place(f)),
+            start + file::RECORD_SIZE * (f as usize),
+            state.flow(f),
         );
     }
 }
@@ -108,65 +109,42 @@ fn put_notes(notes: &[u8], target: &mut [u8])
     requires { length notes.now ≤ length target.old }
     ensures { target.new ≡ sets target.old 0 notes.now }
 {
-    let count = notes.len();
-    for i in 0..count {
-        target[i] = notes[i];
-    }
+    target[..notes.len()].copy_from_slice(notes);
 }
 
 // Writes the file of a state's plan.
-fn put_file(state: &[u32], notes: &[u8], target: &mut [u8])
-    requires state_facts { StateFacts state.now }
-    requires state_bound { (file_size notes.now state.now ≤ most_file) × (file_size notes.now state.now ≤ length target.old) }
+fn put_file(state: &StateWords, notes: &[u8], target: &mut [u8])
+    requires { (file_size notes.now state.now ≤ most_file) × (file_size notes.now state.now ≤ length target.old) }
     ensures { target.new ≡ over (plan_bytes notes.now (plan_in state.now)) target.old }
 {
-    let flows = state[state::FLOWS];
-    let count = flows as usize;
+    let count = state.flows();
     let start = notes.len();
-    let at = start + file::RECORD_SIZE * count;
+    let at = start + file::RECORD_SIZE * (count as usize);
     put_notes(notes, target);
-    put_records(state, count, target, start);
-    put_trailer(
-        target,
-        at,
-        start as u32,
-        flows,
-        state[state::SX],
-        state[state::SY],
-    );
+    put_records(state, target, start);
+    put_trailer(target, at, start as u32, count, state.sx(), state.sy());
 }
 
 // Writing from words that form a state.
-fn write_accepted(state: &[u32], notes: &[u8], target: &mut [u8]) -> Answer
-    requires { StateFacts state.now }
-    ensures { outcome result target.new ≡ bytes_on (plan_bytes notes.now (plan_in state.now)) target.old }
+fn write_accepted(state: &StateWords, notes: &[u8], target: &mut [u8]) -> Result<u32, Refusal>
+    ensures { outcome (told_value result) target.new ≡ bytes_on (plan_bytes notes.now (plan_in state.now)) target.old }
 {
-    let count = state[state::FLOWS] as usize;
+    let count = state.flows() as usize;
     let start = notes.len();
     if MOST_BODY - file::RECORD_SIZE * count < start {
-        return Answer::Refused {
-            number: 1,
-            place: 0,
-        };
+        return Err(Cause::FileLength.into());
     }
     let size = start + file::RECORD_SIZE * count + file::TRAILER_SIZE;
     if target.len() < size {
-        return Answer::Refused {
-            number: 15,
-            place: 0,
-        };
+        return Err(Cause::TargetShort.into());
     }
     put_file(state, notes, target);
-    Answer::Done(size as u32)
+    Ok(size as u32)
 }
 
 // Writing: the state's refusals, then 1, then 15; otherwise the file's bytes, and their number. Bytes past it stay.
-pub fn write(state: &[u32], notes: &[u8], target: &mut [u8]) -> Answer
-    ensures { outcome result target.new ≡ write_on state.now notes.now target.old }
+pub fn write(state: &[u32], notes: &[u8], target: &mut [u8]) -> Result<u32, Refusal>
+    ensures { outcome (told_value result) target.new ≡ write_on state.now notes.now target.old }
 {
-    let number = valid::state_number(state);
-    if number != 0 {
-        return Answer::Refused { number, place: 0 };
-    }
-    write_accepted(state, notes, target)
+    write_accepted(&valid::read_state(state)?, notes, target)
 }

@@ -1,6 +1,6 @@
 -- `flight_bound`: the refusal, or the flight bound of a known flow.
 use mathlib.Core.Path.{sym, ap, ◌∙◌}
-use Rattle.plan.specs.declared.Answer.TheVariants.{Done}
+use Rattle.refusal.specs.Answer.{Done}
 use Rattle.plan.proofs.Accepted.{done_trailed}
 use Rattle.bounds.specs.Bounds.{flight_bound_answer}
 use Rattle.bounds.proofs.Asked.{Known, asked_refused, asked_done, known_flow}

@@ -7,7 +7,7 @@ use Rattle.laws.specs.Bits.{is_set}
 use Rattle.laws.proofs.Bits.{set_above}
 use Rattle.laws.proofs.Cases.{cases}
 use Rattle.flow.specs.Plan.{most_size}
-use Rattle.conflict.specs.declared.Conflict.TheVariants.{Free, Spread}
+use Rattle.std.specs.Prelude.{Some, None}
 use Rattle.conflict.specs.Conflict.{conflict_east}
 use Rattle.conflict.proofs.Spread.{rows_below}
 use Rattle.conflict.proofs.conflict_east.Goals as goal
@@ -19,7 +19,7 @@ returns-then-columns-lt1 c = search (cases, ← c.offset-rows.ensures, ← c.off
 
 -- in f's row: by the columns on g's way
 in_row : (c : goal.After-on_way) → let a = c.args in
-    cond c.on_way.result (Spread 0) Free ≡ conflict_east a.sx a.sy (is_set a.word) a.f a.g
+    cond c.on_way.result (Some 0) None ≡ conflict_east a.sx a.sy (is_set a.word) a.f a.g
 unfolding conflict_east
 in_row c =
     rw (

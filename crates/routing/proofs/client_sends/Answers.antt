@@ -5,7 +5,7 @@ use native.Mathlib.Omega.{arith}
 use Rattle.flow.specs.declared.Port.TheVariants.{East, South}
 use Rattle.flow.specs.Offsets.{port_of}
 use Rattle.flow.specs.Plan.{flow_at}
-use Rattle.state.specs.declared.Register.TheVariants.{Empty}
+use Rattle.std.specs.Prelude.{None}
 use Rattle.state.specs.State.{State}
 use Rattle.state.specs.Read.{plan_in, state_of}
 use Rattle.cycle.specs.Step.{entering}

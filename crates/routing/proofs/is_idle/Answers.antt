@@ -9,7 +9,7 @@ use lib.Dec.{eqb}
 use lib.ListN.{get_or}
 use Rattle.laws.specs.Grid.{cell_index}
 use Rattle.router.specs.Rule.{entrant}
-use Rattle.state.specs.declared.Register.TheVariants.{Empty, Packet}
+use Rattle.std.specs.Prelude.{Some, None}
 use Rattle.state.specs.Layout.{register_size}
 use Rattle.state.specs.Read.{sx_in, router_in, register_in, state_of}
 use Rattle.state.proofs.View.{view_cell}

@@ -2,7 +2,7 @@
 use mathlib.Core.Bool.{cond}
 use mathlib.Core.Path.{◌≡◌, sym, ◌∙◌}
 use native.Mathlib.Omega.{arith}
-use Rattle.state.specs.declared.Register.TheVariants.{Empty}
+use Rattle.std.specs.Prelude.{None}
 use Rattle.state.specs.Read.{clock_in, state_of}
 use Rattle.cycle.specs.Sent.{southward, exits}
 use Rattle.cycle.specs.Step.{leaving, delivered}

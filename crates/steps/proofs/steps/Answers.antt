@@ -1,6 +1,6 @@
 -- `steps`: a step's refusal, or the steps.
 use mathlib.Core.Path.{◌≡◌, sym, ap}
-use Rattle.plan.specs.declared.Answer.{Answer}
+use Rattle.refusal.specs.Answer.{Answer}
 use Rattle.state.specs.Forms.{state_number}
 use Rattle.state.specs.Outcome.{Outcome, Lent}
 use Rattle.cycle.proofs.Keeps.{step_done}

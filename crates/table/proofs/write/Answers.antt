@@ -2,7 +2,7 @@
 use mathlib.Core.Path.{◌≡◌, sym, ◌∙◌}
 use native.Mathlib.Omega.{arith}
 use Rattle.laws.proofs.Written.{wrote_then, wrote_length}
-use Rattle.plan.specs.declared.Answer.TheVariants.{Done}
+use Rattle.refusal.specs.Answer.{Done}
 use Rattle.plan.specs.Refusals.{plan_answer}
 use Rattle.plan.proofs.Accepted.{done_trailed}
 use Rattle.bounds.specs.Inner.{Opened}
