@@ -51,11 +51,7 @@ pub fn sent_south(
 ) -> Option<Packet>
     ensures { result ≡ sent_south turning west north client }
 {
-    if turning {
-        west
-    } else {
-        north.or(client)
-    }
+    if turning { west } else { north.or(client) }
 }
 
 // A W packet in column x goes S.

@@ -1,7 +1,7 @@
 // Who enters, and the flows' next tallies: two walks over the flows. Rests on cycle.
 #![tactic(auto)]
 
-ghost use Rattle.std.specs.Prelude.{◌≡◌, true, ◌+◌, ◌<◌, ◌≤◌, length, get_or};
+ghost use Rattle.std.specs.Prelude.{◌≡◌, true, ◌+◌, ◌<◌, ◌≤◌, length, get_or, None};
 ghost use Rattle.laws.specs.Grid.{cell_index};
 ghost use Rattle.laws.specs.Turns.{turns};
 ghost use Rattle.flow.specs.Plan.{most_size, most_flows};
@@ -58,7 +58,7 @@ fn tally_after(flow: Flow, t: Tally, enters: bool) -> Tally
 }
 
 // Flow f's turn: if it enters, with the entrants of the flows below it, it is its client's entrant.
-pub fn enter(state: &StateWords, f: u32, entrants: &mut [u32])
+pub fn enter(state: &StateWords, f: u32, entrants: &mut [Option<u32>])
     requires f_below { f < count_in state.now }
     requires entrants { Entrants (state_of state.now) f entrants.old }
     ensures { Entrants (state_of state.now) (f + 1) entrants.new }
@@ -68,14 +68,13 @@ pub fn enter(state: &StateWords, f: u32, entrants: &mut [u32])
     }
     let flow = state.flow(f);
     let client = state::router_index(state.sx(), flow.xs, flow.ys);
-    if entrants[client] != 0 {
-        return;
+    if entrants[client].is_none() {
+        entrants[client] = Some(f);
     }
-    entrants[client] = f + 1;
 }
 
 // The entrants of all clients.
-pub fn find_entrants(state: &StateWords, entrants: &mut [u32])
+pub fn find_entrants(state: &StateWords, entrants: &mut [Option<u32>])
     requires { Entrants (state_of state.now) 0 entrants.old }
     ensures { Entrants (state_of state.now) (count_in state.now) entrants.new }
 {
@@ -85,17 +84,17 @@ pub fn find_entrants(state: &StateWords, entrants: &mut [u32])
 }
 
 // Flow f is its client's entrant.
-pub fn entered(entrants: &[u32], sx: u32, flow: Flow, f: u32) -> bool
+pub fn entered(entrants: &[Option<u32>], sx: u32, flow: Flow, f: u32) -> bool
     requires sx_le_most_size { (sx ≤ most_size) × ((flow.xs < sx) × (flow.ys < most_size)) }
     requires ys_in_bounds { (cell_index sx flow.xs flow.ys < length entrants.now) × (f < most_flows) }
-    ensures { result ≡ is_flow f (entrant_in (get_or entrants.now (cell_index sx flow.xs flow.ys) 0)) }
+    ensures { result ≡ is_flow f (entrant_in (get_or entrants.now (cell_index sx flow.xs flow.ys) None)) }
 {
     let client = state::router_index(sx, flow.xs, flow.ys);
-    entrants[client] == f + 1
+    entrants[client] == Some(f)
 }
 
 // Every flow's next tally, by the entrants of all clients.
-pub fn tally_flows(state: &mut [u32], entrants: &[u32])
+pub fn tally_flows(state: &mut [u32], entrants: &[Option<u32>])
     requires { AllEntered state.old entrants.now }
     ensures { state.new ≡ turns (count_in state.old) (tallied (next_tally (state_of state.old))) state.old }
 {

@@ -14,7 +14,7 @@ use router::Reason;
 use state::StateWords;
 
 // Flow f's turn, with the entrants of the flows below it: whether it enters, or why not.
-fn why(state: &StateWords, f: u32, entrants: &mut [u32]) -> Reason
+fn why(state: &StateWords, f: u32, entrants: &mut [Option<u32>]) -> Reason
     requires f_below { f < count_in state.now }
     requires entrants { Entrants (state_of state.now) f entrants.old }
     ensures value { result ≡ reason (state_of state.now).plan (view (state_of state.now)) f }
@@ -42,7 +42,7 @@ fn why(state: &StateWords, f: u32, entrants: &mut [u32]) -> Reason
 }
 
 // Each flow's reason, judged on this state, with room for the entrants; words after the last flow stay.
-pub fn tell(state: &StateWords, entrants: &mut [u32], reasons: &mut [u32])
+pub fn tell(state: &StateWords, entrants: &mut [Option<u32>], reasons: &mut [u32])
     requires entrants { Entrants (state_of state.now) 0 entrants.old }
     requires state_in_bounds { count_in state.now ≤ length reasons.old }
     ensures { reasons.new ≡ over (words_on (state_of state.now)) reasons.old }

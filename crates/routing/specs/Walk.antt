@@ -1,5 +1,5 @@
 -- What the walk over the routers leaves. Only promises of inner functions name these; proofs/ ties them to the definitions of Step.
-use Rattle.std.specs.Prelude.{cond, List, ◌≡◌, ℕ, ◌<◌}
+use Rattle.std.specs.Prelude.{Option, cond, List, ◌≡◌, ℕ, ◌<◌}
 use Rattle.laws.specs.Count.{join_below}
 use Rattle.laws.specs.Turns.{turns}
 use Rattle.flow.specs.declared.Port.TheVariants.{East, South}
@@ -49,6 +49,6 @@ pub record AtRouter (w : List ℕ) (x y : ℕ) : Type 0 where
   pub clock_below : clock_in w < last_clock
 
 -- a walk over all its routers, with their grid and who enters at each
-pub record Walking (w : List ℕ) (g : Grid) (entrants : List ℕ) : Type 0 where
+pub record Walking (w : List ℕ) (g : Grid) (entrants : List (Option ℕ)) : Type 0 where
   pub entered : AllEntered w entrants
   pub grid : g ≡ grid_in w

@@ -1,7 +1,7 @@
 // One walk over the routers: next registers, deliveries and their count. Rests on cycle and entry.
 #![tactic(auto)]
 
-ghost use Rattle.std.specs.Prelude.{◌≡◌, false, ◌+◌, ◌*◌, ◌<◌, ◌≤◌, length};
+ghost use Rattle.std.specs.Prelude.{IfSome, ◌≡◌, ◌+◌, ◌*◌, ◌<◌, ◌≤◌, length};
 ghost use Rattle.std.proofs.lemmas.List.Edits.{sets};
 ghost use Rattle.flow.specs.Limits.{last_clock, exit_size};
 ghost use Rattle.router.specs.Rule.{entrant};
@@ -28,17 +28,16 @@ struct Sent {
 }
 
 // What a client sends, by who enters: the number + 1 of the flow, or 0.
-fn client_sends(state: &StateWords, who: u32) -> Sent
-    requires { (who ≤ count_in state.now) × (clock_in state.now < last_clock) }
+fn client_sends(state: &StateWords, who: Option<u32>) -> Sent
+    requires { (IfSome who (λ f. f < count_in state.now)) × (clock_in state.now < last_clock) }
     ensures { result ≡ client_sends (state_of state.now) (entrant_in who) }
 {
-    if who == 0 {
+    let Some(f) = who else {
         return Sent {
             east: None,
             south: None,
         };
-    }
-    let f = who - 1;
+    };
     let flow = state.flow(f);
     let tally = state.tally(f);
     let packet = Packet {
@@ -69,7 +68,7 @@ fn cell_on(state: &StateWords, grid: Grid, x: u32, y: u32) -> Cell
 }
 
 // What the router in column x and row y sends, by who enters there.
-fn router_sends(state: &StateWords, grid: Grid, x: u32, y: u32, who: u32) -> Sent
+fn router_sends(state: &StateWords, grid: Grid, x: u32, y: u32, who: Option<u32>) -> Sent
     requires at_router { AtRouter state.now x y }
     requires grid_value { grid ≡ grid_in state.now }
     requires who_value { entrant_in who ≡ entrant (state_of state.now).plan (view (state_of state.now)) x y }
@@ -85,7 +84,7 @@ fn router_sends(state: &StateWords, grid: Grid, x: u32, y: u32, who: u32) -> Sen
 }
 
 // What the router in column x and row y sends, with the entrants of all clients.
-fn sent_at(state: &StateWords, grid: Grid, x: u32, y: u32, entrants: &[u32]) -> Sent
+fn sent_at(state: &StateWords, grid: Grid, x: u32, y: u32, entrants: &[Option<u32>]) -> Sent
     requires at_router { AtRouter state.now x y }
     requires grid_value { grid ≡ grid_in state.now }
     requires entrants { Entrants (state_of state.now) (count_in state.now) entrants.now }
@@ -96,14 +95,14 @@ fn sent_at(state: &StateWords, grid: Grid, x: u32, y: u32, entrants: &[u32]) -> 
 }
 
 // No packet stands at the router in column x and row y, nor enters there.
-fn is_idle(state: &StateWords, grid: Grid, x: u32, y: u32, entrants: &[u32]) -> bool
+fn is_idle(state: &StateWords, grid: Grid, x: u32, y: u32, entrants: &[Option<u32>]) -> bool
     requires walking { Walking state.now grid entrants.now }
     requires x_bound { (x < sx_in state.now) × (y < sy_in state.now) }
     ensures { result ≡ is_idle (state_of state.now) x y }
 {
     let router = state::router_index(grid.sx, x, y);
     let at = state::router_place(grid.flows, grid.sx, x, y);
-    (entrants[router] == 0) & state::is_vacant(state.words(), at)
+    entrants[router].is_none() & state::is_vacant(state.words(), at)
 }
 
 // The router in column x and row y: what it sends goes to its neighbours' next registers, or is delivered after `count` exits.
@@ -112,7 +111,7 @@ fn route(
     grid: Grid,
     x: u32,
     y: u32,
-    entrants: &[u32],
+    entrants: &[Option<u32>],
     next: &mut [u32],
     delivery: &mut [u32],
     count: u32,
@@ -141,7 +140,7 @@ fn route_row(
     state: &StateWords,
     grid: Grid,
     y: u32,
-    entrants: &[u32],
+    entrants: &[Option<u32>],
     next: &mut [u32],
     delivery: &mut [u32],
     count: u32,
@@ -164,7 +163,7 @@ fn route_row(
 }
 
 // All routers, by row then column.
-pub fn route_all(state: &StateWords, entrants: &[u32], next: &mut [u32], delivery: &mut [u32]) -> u32
+pub fn route_all(state: &StateWords, entrants: &[Option<u32>], next: &mut [u32], delivery: &mut [u32]) -> u32
     requires all_entered { AllEntered state.now entrants.now }
     requires state_in_bounds { registers_in state.now ≤ length next.old }
     requires state_in_bounds_2 { exit_size * (sx_in state.now * sy_in state.now) ≤ length delivery.old }

@@ -307,7 +307,14 @@ pub fn put_tally(w: &mut [u32], at: usize, t: Tally)
     requires { at + flow_size ≤ length w.old }
     ensures { w.new ≡ sets w.old (at + number_size) (tally_words t) }
 {
-    put_four(w, at + TOKENS, t.bucket.tokens, t.bucket.count, t.entered, t.waiting);
+    put_four(
+        w,
+        at + TOKENS,
+        t.bucket.tokens,
+        t.bucket.count,
+        t.entered,
+        t.waiting,
+    );
 }
 
 // Writes the clock.

@@ -1,6 +1,6 @@
 -- What a step needs, and the words that it leaves, part by part.
 -- Only promises of inner functions name these; proofs/ ties them to the definitions of Calls.
-use Rattle.std.specs.Prelude.{List, ◌≡◌, ℕ, ◌+◌, ◌*◌, ◌≤◌, ◌<◌, length, get_or, set, take}
+use Rattle.std.specs.Prelude.{Option, List, ◌≡◌, ℕ, ◌+◌, ◌*◌, ◌≤◌, ◌<◌, length, get_or, set, take}
 use Rattle.std.proofs.lemmas.List.Edits.{sets}
 use Rattle.laws.specs.Turns.{turns}
 use Rattle.flow.specs.Limits.{last_clock, exit_size}
@@ -31,7 +31,7 @@ pub record Judged (w delivery : List ℕ) (number : ℕ) : Type 0 where
       ≡ outcome (Done (length (deliveries s))) (lent (over (state_words (step_state s)) w) (over (words_of (deliveries s)) delivery))
 
 -- with room for the entrants, of which there are none yet, and for the next registers, which are cleared
-pub record Room (w entrants registers delivery : List ℕ) : Type 0 where
+pub record Room (w : List ℕ) (entrants : List (Option ℕ)) (registers delivery : List ℕ) : Type 0 where
   pub stepping : Stepping w delivery
   pub registers_fit : registers_in w ≤ length registers
   pub registers_clear : (i : ℕ) → i < registers_in w → get_or registers i 0 ≡ 0

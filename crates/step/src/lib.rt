@@ -28,7 +28,7 @@ fn copy(from: &[u32], to: &mut [u32], at: usize, n: usize)
 // Who enters, the next registers and the exits' words; the count of exits.
 fn find_next(
     state: &StateWords,
-    entrants: &mut [u32],
+    entrants: &mut [Option<u32>],
     registers: &mut [u32],
     delivery: &mut [u32],
 ) -> u32
@@ -43,7 +43,7 @@ fn find_next(
 }
 
 // Writes the next tallies, clock and registers.
-fn store_next(state: &mut [u32], entrants: &[u32], registers: &[u32])
+fn store_next(state: &mut [u32], entrants: &[Option<u32>], registers: &[u32])
     requires all_entered { AllEntered state.old entrants.now }
     requires state_in_bounds { registers_in state.old ≤ length registers.now }
     ensures { state.new ≡ next_words state.old registers.now }
@@ -64,7 +64,7 @@ fn store_next(state: &mut [u32], entrants: &[u32], registers: &[u32])
 // One cycle, with room for the entrants and for the next registers.
 pub fn advance_in(
     state: &mut [u32],
-    entrants: &mut [u32],
+    entrants: &mut [Option<u32>],
     registers: &mut [u32],
     delivery: &mut [u32],
 ) -> u32
@@ -87,16 +87,16 @@ fn advance(state: &mut [u32], delivery: &mut [u32]) -> u32
 {
     let routers = state[state::SX] * state[state::SY];
     if routers <= 16 {
-        let mut entrants = [0u32; 16];
+        let mut entrants = [None; 16];
         let mut registers = [0u32; state::ROUTER_SIZE * 16];
         return advance_in(state, &mut entrants, &mut registers, delivery);
     }
     if routers <= 64 {
-        let mut entrants = [0u32; 64];
+        let mut entrants = [None; 64];
         let mut registers = [0u32; state::ROUTER_SIZE * 64];
         return advance_in(state, &mut entrants, &mut registers, delivery);
     }
-    let mut entrants = [0u32; state::MOST_ROUTERS];
+    let mut entrants = [None; state::MOST_ROUTERS];
     let mut registers = [0u32; state::ROUTER_SIZE * state::MOST_ROUTERS];
     advance_in(state, &mut entrants, &mut registers, delivery)
 }

@@ -1,6 +1,6 @@
 -- What many steps ask for and keep, turn by turn: a leap, or a step behind the exits so far. Only promises of inner functions name these;
 -- proofs/Loop ties them to how far the steps have come.
-use Rattle.std.specs.Prelude.{List, ◌++◌, ◌≡◌, ℕ, ◌+◌, ◌-◌, ◌*◌, ◌≤◌, ◌<◌, length, get_or, take, drop}
+use Rattle.std.specs.Prelude.{Option, List, ◌++◌, ◌≡◌, ℕ, ◌+◌, ◌-◌, ◌*◌, ◌≤◌, ◌<◌, length, get_or, take, drop}
 use Rattle.flow.specs.Limits.{exit_size, most_delivered, step_number}
 use Rattle.router.specs.Delivery.{words_of}
 use Rattle.state.specs.Words.{state_words}
@@ -19,7 +19,7 @@ pub record Checked (w delivery : List ℕ) : Type 0 where
   pub delivery_most : length delivery ≤ most_delivered
 
 -- room for the entrants and for the next registers
-pub record Rooms (w entrants registers : List ℕ) : Type 0 where
+pub record Rooms (w : List ℕ) (entrants : List (Option ℕ)) (registers : List ℕ) : Type 0 where
   pub entrants_fit : sx_in w * sy_in w ≤ length entrants
   pub registers_fit : registers_in w ≤ length registers
 

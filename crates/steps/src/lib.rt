@@ -12,7 +12,7 @@ ghost use Rattle.state.specs.Forms.{state_number};
 ghost use Rattle.cycle.specs.Step.{step_state, deliveries};
 ghost use Rattle.cycle.specs.Steps.{steps_on};
 ghost use Rattle.cycle.specs.Progress.{progress, Reached};
-ghost use Rattle.steps.specs.Loop.{Checked, Rooms, number_behind, Behind, FreeBehind, Turned, AllZero};
+ghost use Rattle.steps.specs.Loop.{Checked, Rooms, number_behind, Behind, FreeBehind, Turned};
 
 use refusal::{Cause, Refusal};
 use state::StateWords;
@@ -32,17 +32,10 @@ fn check_next(state: &[u32], delivery: &[u32], exits: u32) -> Result<(), Cause>
     step::check_room(&StateWords::of(state), delivery.len() - cycle::EXIT_SIZE * (exits as usize))
 }
 
-// Makes every word 0.
-fn clear(l: &mut [u32])
-    ensures { AllZero l.new }
-{
-    l.fill(0);
-}
-
 // A step that delivers behind so many exits, with room for the entrants and for the next registers: how many more.
 fn step_behind(
     state: &mut [u32],
-    entrants: &mut [u32],
+    entrants: &mut [Option<u32>],
     registers: &mut [u32],
     delivery: &mut [u32],
     exits: u32,
@@ -55,8 +48,8 @@ fn step_behind(
         ≡ take (exit_size * exits) delivery.old
         ++ over (words_of (deliveries (state_of state.old))) (drop (exit_size * exits) delivery.old) }
 {
-    clear(entrants);
-    clear(registers);
+    entrants.fill(None);
+    registers.fill(0);
     step::advance_in(
         state,
         entrants,
@@ -75,7 +68,7 @@ pub struct Turn {
 // A leap of at most so many cycles, where one may come, or else a step.
 fn take_turn(
     state: &mut [u32],
-    entrants: &mut [u32],
+    entrants: &mut [Option<u32>],
     registers: &mut [u32],
     delivery: &mut [u32],
     exits: u32,
@@ -102,7 +95,7 @@ fn take_turn(
 // flight, and after a leap a waiting flow has a token, or the steps are over; so a leap is tried at the start and after exits.
 pub fn advance_many(
     state: &mut [u32],
-    entrants: &mut [u32],
+    entrants: &mut [Option<u32>],
     registers: &mut [u32],
     delivery: &mut [u32],
     cycles: u32,
@@ -135,16 +128,16 @@ fn advance_sized(state: &mut [u32], delivery: &mut [u32], cycles: u32) -> u32
 {
     let routers = state[state::SX] * state[state::SY];
     if routers <= 16 {
-        let mut entrants = [0u32; 16];
+        let mut entrants = [None; 16];
         let mut registers = [0u32; state::ROUTER_SIZE * 16];
         return advance_many(state, &mut entrants, &mut registers, delivery, cycles);
     }
     if routers <= 64 {
-        let mut entrants = [0u32; 64];
+        let mut entrants = [None; 64];
         let mut registers = [0u32; state::ROUTER_SIZE * 64];
         return advance_many(state, &mut entrants, &mut registers, delivery, cycles);
     }
-    let mut entrants = [0u32; state::MOST_ROUTERS];
+    let mut entrants = [None; state::MOST_ROUTERS];
     let mut registers = [0u32; state::ROUTER_SIZE * state::MOST_ROUTERS];
     advance_many(state, &mut entrants, &mut registers, delivery, cycles)
 }

@@ -18,8 +18,8 @@ use state::StateWords;
 // One cycle, and before it each flow's reason, with room of its own for the entrants.
 fn tell_in(
     state: &mut [u32],
-    told: &mut [u32],
-    entrants: &mut [u32],
+    told: &mut [Option<u32>],
+    entrants: &mut [Option<u32>],
     registers: &mut [u32],
     delivery: &mut [u32],
     reasons: &mut [u32],
@@ -48,19 +48,19 @@ fn advance_telling(state: &mut [u32], delivery: &mut [u32], reasons: &mut [u32])
 {
     let routers = state[state::SX] * state[state::SY];
     if routers <= 16 {
-        let mut why = [0u32; 16];
-        let mut entrants = [0u32; 16];
+        let mut why = [None; 16];
+        let mut entrants = [None; 16];
         let mut next = [0u32; state::ROUTER_SIZE * 16];
         return tell_in(state, &mut why, &mut entrants, &mut next, delivery, reasons);
     }
     if routers <= 64 {
-        let mut why = [0u32; 64];
-        let mut entrants = [0u32; 64];
+        let mut why = [None; 64];
+        let mut entrants = [None; 64];
         let mut next = [0u32; state::ROUTER_SIZE * 64];
         return tell_in(state, &mut why, &mut entrants, &mut next, delivery, reasons);
     }
-    let mut why = [0u32; state::MOST_ROUTERS];
-    let mut entrants = [0u32; state::MOST_ROUTERS];
+    let mut why = [None; state::MOST_ROUTERS];
+    let mut entrants = [None; state::MOST_ROUTERS];
     let mut next = [0u32; state::ROUTER_SIZE * state::MOST_ROUTERS];
     tell_in(state, &mut why, &mut entrants, &mut next, delivery, reasons)
 }
