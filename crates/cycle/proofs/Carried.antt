@@ -20,7 +20,7 @@ use Rattle.router.proofs.Limit.{every_row, every_rising}
 use Rattle.router.proofs.Path.{every_bends, Arrives, step_placed, step_entry}
 use Rattle.router.proofs.InPlace.{in_place_path}
 use Rattle.router.proofs.Entrant.{Found, no_entrant, has_entrant, found, enters_at}
-use Rattle.state.specs.Register.{Register}
+use Rattle.state.specs.Register.{Register, packet_with}
 use Rattle.std.specs.Prelude.{Some, None}
 use Rattle.state.specs.State.{State, tally_at, cell_at}
 use Rattle.state.proofs.Formed.{register_ok, StateOk}
@@ -40,16 +40,16 @@ module _ (s : State) where
 
   -- such a packet, or none
   abbrev pub Carries : (x y : ℕ) → Way → Register → Type 0
-  Carries x y o Empty = Unit {0}
-  Carries x y o (Packet flow serial entry deflections) = Routed x y o flow serial entry deflections
+  Carries x y o None = Unit {0}
+  Carries x y o (Some packet) = Routed x y o packet.flow packet.serial packet.entry packet.deflections
 
   -- a deflection is counted
   onward_carries : (x y : ℕ) (o : Way) (d : Bool) (flow serial entry D : ℕ) → Routed x y o flow serial entry (D + one d)
-      → Carries x y o (onward d (Packet flow serial entry D))
+      → Carries x y o (onward d (Some (packet_with flow serial entry D)))
   onward_carries x y o true flow serial entry D h = h
   onward_carries x y o false flow serial entry D h = rw add-zero at h
 
-  none_carries : (x y : ℕ) (o : Way) (d : Bool) → Carries x y o (onward d Empty)
+  none_carries : (x y : ℕ) (o : Way) (d : Bool) → Carries x y o (onward d None)
   none_carries x y o true = tt
   none_carries x y o false = tt
 
@@ -61,7 +61,7 @@ module _ (s : State) where
     before : entry < s.clock
     in_place : is_in_place p.sx p.sy (flow_at p flow) at D (s.clock - entry) ≡ true
 
-  held : (at : Place) (flow serial entry D : ℕ) → register_ok s at (Packet flow serial entry D) ≡ true → Held at flow serial entry D
+  held : (at : Place) (flow serial entry D : ℕ) → register_ok s at (Some (packet_with flow serial entry D)) ≡ true → Held at flow serial entry D
   held at flow serial entry D e =
       let all = and_true _ _ e in
       let front = and_true _ _ all.0 in
@@ -80,20 +80,20 @@ module _ (s : State) where
     moved : (v : Seen) (at : Place) → column_of at < p.sx → row_of at < p.sy → (o : Way) (r : Register) → register_ok s at r ≡ true
         → held_in v at ≡ shown p r → takes v at o ≡ true → Carries (column_of at) (row_of at) o (onward (deflects v at) r)
     unfolding next_tally
-    moved v at column row o Empty e shows t = none_carries _ _ o (deflects v at)
-    moved v at column row o (Packet flow serial entry D) e shows t =
-        let h = held at flow serial entry D e in
-        let φ = flow_at p flow in
-        let fits = ok.plan_ok.flow_ok flow h.flow_below in
-        let path = in_place_path p φ fits s.clock D entry at column row h.before h.in_place in
+    moved v at column row o None e shows t = none_carries _ _ o (deflects v at)
+    moved v at column row o (Some packet) e shows t =
+        let h = held at packet.flow packet.serial packet.entry packet.deflections e in
+        let φ = flow_at p packet.flow in
+        let fits = ok.plan_ok.flow_ok packet.flow h.flow_below in
+        let path = in_place_path p φ fits s.clock packet.deflections packet.entry at column row h.before h.in_place in
         let way : way_from v at φ ≡ o = way_same _ o (sym (takes_own v at φ o shows) ∙ t) in
-        onward_carries _ _ o (deflects v at) flow serial entry D
+        onward_carries _ _ o (deflects v at) packet.flow packet.serial packet.entry packet.deflections
         (record {
           flow_below = h.flow_below;
           serial_least = h.serial_least;
           serial_most = omega (arith, h.serial_most);
-          arrives = subst (Arrives p φ every_row s.clock (D + one (deflects v at)) entry (column_of at) (row_of at)) way
-              (step_placed p φ every_row fits every_rising v s.clock D entry at path (every_bends p φ v s.clock D entry at path)).sound;
+          arrives = subst (Arrives p φ every_row s.clock (packet.deflections + one (deflects v at)) packet.entry (column_of at) (row_of at)) way
+              (step_placed p φ every_row fits every_rising v s.clock packet.deflections packet.entry at path (every_bends p φ v s.clock packet.deflections packet.entry at path)).sound;
         })
 
     -- a client's packet comes in

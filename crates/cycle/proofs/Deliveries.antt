@@ -24,8 +24,8 @@ module _ (s : State) where
   router_exits x y = most (carried s x y leave)
     where
       most : (r : Register) → length (leaving s.clock r) ≤ 1
-      most Empty = omega arith
-      most (Packet flow serial entry deflections) = omega arith
+      most None = omega arith
+      most (Some packet) = omega arith
 
   -- the first n routers of row y
   pub row_exits : (y n : ℕ) → length (join_below n (λ x. delivered s x y)) ≤ n

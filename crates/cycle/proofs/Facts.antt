@@ -48,8 +48,8 @@ module _ (w : List ℕ) (s : StateFacts w) where
   flow_below place at e = of (register_in w at) refl
     where
       of : (r : Register) → register_in w at ≡ r → flow_of r < count_in w
-      of Empty q = s.header.count_least
-      of (Packet flow serial entry deflections) q = (packet_facts w place at e flow serial entry deflections q).flow_below
+      of None q = s.header.count_least
+      of (Some packet) q = (packet_facts w place at e packet.flow packet.serial packet.entry packet.deflections q).flow_below
 
   module _ (x y : ℕ) (h : x < sx_in w) (k : y < sy_in w) where
     pub west_flow : flow_of (cell_at (state_of w) x y).west < count_in w
@@ -66,9 +66,9 @@ module _ (w : List ℕ) (s : StateFacts w) where
         at = router_in w x y + register_size
 
         of : (r : Register) → register_in w at ≡ r → deflections_of r < most_size
-        of Empty q = omega arith
-        of (Packet flow serial entry deflections) q =
-            let p = packet_facts w (N x y) at (s.north x y h k) flow serial entry deflections q in
-            let numbers = (s.flow flow p.flow_below).numbers in
+        of None q = omega arith
+        of (Some packet) q =
+            let p = packet_facts w (N x y) at (s.north x y h k) packet.flow packet.serial packet.entry packet.deflections q in
+            let numbers = (s.flow packet.flow p.flow_below).numbers in
             let most = s.header.sy_ok in
-            omega (arith, north_deflected (sx_in w) (sy_in w) (flow_in w (flow_place flow)) x y deflections (clock_in w - entry) numbers k p.in_place)
+            omega (arith, north_deflected (sx_in w) (sy_in w) (flow_in w (flow_place packet.flow)) x y packet.deflections (clock_in w - packet.entry) numbers k p.in_place)

@@ -81,17 +81,17 @@ module _ (s : State) (ok : StateOk s) where
       from = feeder p at
 
       of : (r : Register) → Carries s from.x from.y (via from.port) r → register_ok (step_state s) at r ≡ true
-      of Empty h = refl
-      of (Packet flow serial entry deflections) h =
-          let fits = ok.plan_ok.flow_ok flow h.flow_below in
-          let path = subst (OnPath p (flow_at p flow) every_row (s.clock + 1) deflections entry) (reach_feeder p at column row) h.arrives in
-          let entered = ap (λ (t : Tally). t.entered) (tally_after flow h.flow_below) in
+      of None h = refl
+      of (Some packet) h =
+          let fits = ok.plan_ok.flow_ok packet.flow h.flow_below in
+          let path = subst (OnPath p (flow_at p packet.flow) every_row (s.clock + 1) packet.deflections packet.entry) (reach_feeder p at column row) h.arrives in
+          let entered = ap (λ (t : Tally). t.entered) (tally_after packet.flow h.flow_below) in
           rw (
-            lt-ltb flow (length p.flows) h.flow_below,
-            le-leb 1 serial h.serial_least,
-            le-leb serial (tally_at (step_state s) flow).entered (omega (arith, entered, h.serial_most)),
-            lt-ltb entry (s.clock + 1) (entered_before p (flow_at p flow) every_row fits (s.clock + 1) deflections entry at path),
-            path_in_place p (flow_at p flow) fits (s.clock + 1) deflections every_row (λ n. omega arith) entry at path,
+            lt-ltb packet.flow (length p.flows) h.flow_below,
+            le-leb 1 packet.serial h.serial_least,
+            le-leb packet.serial (tally_at (step_state s) packet.flow).entered (omega (arith, entered, h.serial_most)),
+            lt-ltb packet.entry (s.clock + 1) (entered_before p (flow_at p packet.flow) every_row fits (s.clock + 1) packet.deflections packet.entry at path),
+            path_in_place p (flow_at p packet.flow) fits (s.clock + 1) packet.deflections every_row (λ n. omega arith) packet.entry at path,
           )
 
   -- the state after a cycle

@@ -83,8 +83,8 @@ module _ (s : State) (f n : ℕ) (below : f < length s.tallies) where
       ]
 
   register_same : (at : Place) (r : Register) → register_ok now at r ≡ register_ok s at r
-  register_same at Empty = refl
-  register_same at (Packet flow serial entry deflections) = rw (entered_same flow)
+  register_same at None = refl
+  register_same at (Some packet) = rw (entered_same packet.flow)
 
   tally_fits_lem : n ≤ most_waiting → (g : ℕ) → tally_fits s.clock (flow_at s.plan g) (tally_at s g) ≡ true
       → tally_fits s.clock (flow_at s.plan g) (tally_at now g) ≡ true

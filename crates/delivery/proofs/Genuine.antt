@@ -29,10 +29,10 @@ module _ (s : State) (ok : StateOk s) (d : Delivery) where
   router_genuine x y lx ly = of (carried s x y leave) (carried_routed s ok x y lx ly leave)
     where
       of : (r : Register) → Carries s x y leave r → Mem d (leaving s.clock r) → Genuine s.plan d
-      of Empty h m = elim m [ ]
-      of (Packet flow serial entry deflections) h (here e) =
+      of None h m = elim m [ ]
+      of (Some packet) h (here e) =
           rw e (record { flow_below = h.flow_below; few = h.arrives.few; time = h.arrives.time })
-      of (Packet flow serial entry deflections) h (there m) = elim m [ ]
+      of (Some packet) h (there m) = elim m [ ]
 
   pub delivery_genuine : Mem d (deliveries s) → Genuine s.plan d
   unfolding deliveries

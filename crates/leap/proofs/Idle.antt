@@ -54,11 +54,11 @@ module _ (s : State) (vacant : Vacant s) (unready : (f : ℕ) → f < length s.p
   none_enters f = ap (is_flow f) (nobody _ _)
 
   -- so no way out carries anything
-  carries_none : (x y : ℕ) → x < p.sx → y < p.sy → (o : Way) → carried s x y o ≡ Empty
+  carries_none : (x y : ℕ) → x < p.sx → y < p.sy → (o : Way) → carried s x y o ≡ None
   unfolding carried sent_by takes sends_by
   carries_none x y l m o = rw (vacant x y l m, nobody x y)
 
-  register_none : (at : Place) → column_of at < p.sx → row_of at < p.sy → next_register s at ≡ Empty
+  register_none : (at : Place) → column_of at < p.sx → row_of at < p.sy → next_register s at ≡ None
   unfolding next_register
   register_none at l m = let on = feeder_on p at l m in carries_none _ _ on.0 on.1 _
 

@@ -32,12 +32,12 @@ module _ (w : List ℕ) where
   either a b false p q = q
 
   first : (a b : Register) → InPlan a → InPlan b → InPlan (or_else a b)
-  first Empty b p q = q
-  first (Packet flow serial entry deflections) b p q = p
+  first None b p q = q
+  first (Some packet) b p q = p
 
   once : (a : Register) → InPlan a → InPlan (deflected a)
-  once Empty p = p
-  once (Packet flow serial entry deflections) p = p
+  once None p = p
+  once (Some packet) p = p
 
   -- who enters is a flow of the plan
   entering_flow : StateFacts w → (port : Port) {x y : ℕ} {who : Option ℕ} → Found (state_of w).plan (view (state_of w)) x y who
@@ -83,6 +83,6 @@ module _ (w : List ℕ) (x y : ℕ) (here : AtRouter w x y) where
       few (eastward (state_of w) x y)
       (either w (deflected north) _ turning (once w north north_in) (first w west (client East) west_in (client_flow East)))
 
-  pub south_reaches : (exit : Bool) → flow_of (cond exit Empty (southward (state_of w) x y)) < most_flows
+  pub south_reaches : (exit : Bool) → flow_of (cond exit None (southward (state_of w) x y)) < most_flows
   south_reaches exit =
-      few (cond exit Empty (southward (state_of w) x y)) (either w Empty (southward (state_of w) x y) exit here.router.facts.header.count_least south_sent)
+      few (cond exit None (southward (state_of w) x y)) (either w None (southward (state_of w) x y) exit here.router.facts.header.count_least south_sent)

@@ -17,22 +17,22 @@ use Rattle.routing.specs.Sent.{is_none, is_idle}
 use Rattle.routing.specs.Walk.{pushed, passed}
 
 module _ (s : State) (x y : ℕ) (idle : is_idle s x y ≡ true) where
-  empty : (r : Register) → is_empty r ≡ true → r ≡ Empty
-  empty Empty e = refl
-  empty (Packet flow serial entry deflections) e = absurd (false≢true e)
+  empty : (r : Register) → is_empty r ≡ true → r ≡ None
+  empty None e = refl
+  empty (Some packet) e = absurd (false≢true e)
 
   nobody : (who : Option ℕ) → is_none who ≡ true → who ≡ none
   nobody none e = refl
   nobody (some f) e = absurd (false≢true e)
 
   -- no packet in W and none in N, and nobody enters
-  parts : (entrant s.plan (view s) x y ≡ none) × (((cell_at s x y).west ≡ Empty) × ((cell_at s x y).north ≡ Empty))
+  parts : (entrant s.plan (view s) x y ≡ none) × (((cell_at s x y).west ≡ None) × ((cell_at s x y).north ≡ None))
   parts =
       let two = and_true (is_none (entrant s.plan (view s) x y) && is_empty (cell_at s x y).west) (is_empty (cell_at s x y).north) idle in
       let one = and_true (is_none (entrant s.plan (view s) x y)) (is_empty (cell_at s x y).west) two.0 in
       (nobody _ one.0, (empty _ one.1, empty _ two.1))
 
-  pub idle_carries : (o : Way) → carried s x y o ≡ Empty
+  pub idle_carries : (o : Way) → carried s x y o ≡ None
   unfolding carried sent_by takes sends_by
   idle_carries o = rw (parts.0, parts.1.0, parts.1.1)
 

@@ -138,7 +138,7 @@ module _ (w : List ℕ) where
 
   -- nothing stands there; then a router's turn fills it
   abbrev blank : Port → List ℕ
-  blank o = register_words Empty
+  blank o = register_words None
 
   length_blank : (o : Port) → length (blank o) ≡ register_size
   length_blank o = refl
@@ -196,7 +196,7 @@ module _ (w : List ℕ) where
       let inside = fits (To x y o) there.0 there.1 in
       record { fits = omega (arith, room); same = λ j b. clear _ (omega arith) ∙ sym (zero_at j) }
     where
-      zero_at : (j : ℕ) → get_or (register_words Empty) j 0 ≡ 0
+      zero_at : (j : ℕ) → get_or (register_words None) j 0 ≡ 0
       zero_at zero = refl
       zero_at (suc zero) = refl
       zero_at (suc (suc zero)) = refl
@@ -227,7 +227,7 @@ module _ (w : List ℕ) where
 
   -- by what the code sends
   pub pushed_is : (l : List ℕ) (x y : ℕ) → let s = state_of w in
-      push (grid_in w) x y South (cond (exits s.plan x y (southward s x y)) Empty (southward s x y)) (push (grid_in w) x y East (eastward s x y) l)
+      push (grid_in w) x y South (cond (exits s.plan x y (southward s x y)) None (southward s x y)) (push (grid_in w) x y East (eastward s x y) l)
       ≡ pushed w x y l
   unfolding pushed
   pushed_is l x y = rw (east_is (state_of w) x y, south_is (state_of w) x y)

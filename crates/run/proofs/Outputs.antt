@@ -30,6 +30,7 @@ use Rattle.book.proofs.Traced.{Sound}
 use Rattle.book.proofs.Outputs.{outgoing, entrants_of, outgoing_is}
 use Rattle.book.proofs.Kept.{Kept}
 use Rattle.std.specs.Prelude.{Some, None}
+use Rattle.state.specs.Register.{packet_with}
 use Rattle.cycle.specs.Step.{onward, entering, sends_by, sent_by, carried}
 use Rattle.run.specs.View.{packet_of, holding, register_of, book_state}
 use Rattle.run.proofs.View.{tally_at_lem, cell_at_lem, seen_same, entrants_agree}
@@ -43,14 +44,14 @@ module _ (p : Plan) (b : Book) (l : Line) where
       (ap (λ (a : Place). deflects (seen p b (column_of a) (row_of a)) a) (place_same at here' e), sent_entry p _ _ _ _ _)
   stage_moves at (left e' t x y) e = absurd (false≢true e)
 
-  onward_is : (flow serial entry D : ℕ) (d : Bool) → Packet flow serial entry (D + one d) ≡ onward d (Packet flow serial entry D)
+  onward_is : (flow serial entry D : ℕ) (d : Bool) → Some (packet_with flow serial entry (D + one d)) ≡ onward d (Some (packet_with flow serial entry D))
   onward_is flow serial entry D true = refl
   onward_is flow serial entry D false = rw add-zero
 
   packet_moves : (at : Place) → stands_in at l.stage ≡ true → packet_of (move p b l) ≡ onward (deflects (seen p b (column_of at) (row_of at)) at) (packet_of l)
   packet_moves at e =
       let h = stage_moves at l.stage e in
-      (λ i. Packet l.flow l.serial (h.1 i) (l.D + one (h.0 i)))
+      (λ i. Some (packet_with l.flow l.serial (h.1 i) (l.D + one (h.0 i))))
       ∙ onward_is l.flow l.serial (entry_of l.stage) l.D (deflects (seen p b (column_of at) (row_of at)) at)
 
 -- the line in a register, after the step
@@ -59,7 +60,7 @@ network : (p : Plan) (b : Book) (at : Place)
 unfolding register_of
 network p b at = sends (lines_in b at) (λ l m. (kept (λ (z : Line). stands_in at z.stage) b.lines m).1)
   where
-    empty : (d : Bool) → onward d Empty ≡ Empty
+    empty : (d : Bool) → onward d None ≡ None
     empty true = refl
     empty false = refl
 
@@ -76,14 +77,14 @@ waits_fresh p b f c D (left e t x y) w h = absurd (false≢true w)
 
 module _ (p : Plan) (b : Book) (k : Kept p b) where
   -- the packet of a line that enters
-  packet_enters : (l : Line) → Mem l b.lines → goes p b l ≡ true → packet_of (move p b l) ≡ Packet l.flow (entered_of b l.flow + 1) b.clock 0
+  packet_enters : (l : Line) → Mem l b.lines → goes p b l ≡ true → packet_of (move p b l) ≡ Some (packet_with l.flow (entered_of b l.flow + 1) b.clock 0)
   packet_enters l m g =
       let w = and_true (is_waiting l.stage) (enters p b l.flow && lowest b l) g in
       let low = (and_true (enters p b l.flow) (lowest b l) w.1).1 in
       let serial = eqb-true l.serial (entered_of b l.flow + 1) (sym (lowest_next b k.lawful.queued l m w.0) ∙ low) in
       let D = waits_fresh p b (flow_at p l.flow) b.clock l.D l.stage w.0 (k.lawful.traced.sound l m) in
       let entry = new_entry (turn p b l) in
-      λ i. Packet l.flow (serial i) (entry i) (D i)
+      λ i. Some (packet_with l.flow (serial i) (entry i) (D i))
     where
       new_entry : Turn p b l → entry_of (move p b l).stage ≡ b.clock
       new_entry (keeps w w' e g') = absurd (false≢true (sym g' ∙ g))

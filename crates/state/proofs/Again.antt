@@ -29,13 +29,13 @@ module _ (w : List ℕ) where
 
   -- a register's four words too, if it holds a packet or is four zeros
   register_again : (at : ℕ) → at + register_size ≤ length w
-      → (register_in w at ≡ Empty → (k : ℕ) → k < register_size → get_or w (at + k) 0 ≡ 0) → Stands 0 w at (register_words (register_in w at))
+      → (register_in w at ≡ None → (k : ℕ) → k < register_size → get_or w (at + k) 0 ≡ 0) → Stands 0 w at (register_words (register_in w at))
   unfolding tabulate
   register_again at h zeros =
       let all = rw add-zero at (stands_entries 0 w at 4 h) in
       elim (ℕ_discrete (get_or w at 0) 0) [
         | yes e ↦
-            let none : register_in w at ≡ Empty = rw (eq-eqb (get_or w at 0) 0 e) in
+            let none : register_in w at ≡ None = rw (eq-eqb (get_or w at 0) 0 e) in
             rw none (rw (e, zeros none 1 (omega arith), zeros none 2 (omega arith), zeros none 3 (omega arith)) at all)
         | no e ↦
             let some = ne_eqb (get_or w at 0) 0 e in

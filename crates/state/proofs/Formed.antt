@@ -32,11 +32,11 @@ use Rattle.state.proofs.Forms.{flow_fits_lem, state_facts}
 
 -- a packet's numbers fit: 01's conditions on a register, of a state
 abbrev pub register_ok : State → Place → Register → Bool
-register_ok s place Empty = true
-register_ok s place (Packet flow serial entry deflections) =
-    ltb flow (length s.plan.flows)
-    && (leb 1 serial && leb serial (tally_at s flow).entered)
-    && (ltb entry s.clock && is_in_place s.plan.sx s.plan.sy (flow_at s.plan flow) place deflections (s.clock - entry))
+register_ok s place None = true
+register_ok s place (Some packet) =
+    ltb packet.flow (length s.plan.flows)
+    && (leb 1 packet.serial && leb packet.serial (tally_at s packet.flow).entered)
+    && (ltb packet.entry s.clock && is_in_place s.plan.sx s.plan.sy (flow_at s.plan packet.flow) place packet.deflections (s.clock - packet.entry))
 
 -- a state whose numbers fit
 pub record StateOk (s : State) : Type 0 where
@@ -96,15 +96,15 @@ module _ (s : State) (ok : StateOk s) (w : List ℕ) (h : Stands 0 w 0 (state_wo
 
   contents_true : (place : Place) (at : ℕ) (r : Register) → Stands 0 w at (register_words r) → register_ok s place r ≡ true
       → contents_fit w place at r ≡ true
-  contents_true place at Empty t e =
+  contents_true place at None t e =
       all_intro (λ k. eqb (get_or w (at + k) 0) 0) register_size (λ k l. eq-eqb _ 0 (t.same k l ∙ get_or-replicate 4 k 0 0 l))
-  contents_true place at (Packet flow serial entry deflections) t e =
+  contents_true place at (Some packet) t e =
       let F = length s.plan.flows in
-      let serials = leb 1 serial && leb serial (tally_at s flow).entered in
-      let parts = and_true (ltb flow F && serials) _ e in
-      let l : flow < F = ltb-true flow F (and_true (ltb flow F) serials parts.0).0 in
-      let entered : (tally_in w (flow_place flow)).entered ≡ (tally_at s flow).entered = ap (λ t. t.entered) (tally_at_read s w h flow l) in
-      rw (count_read s w h, clock_read s w h, sx_read s w h, sy_read s w h, flow_at_read s w h flow l, entered) e
+      let serials = leb 1 packet.serial && leb packet.serial (tally_at s packet.flow).entered in
+      let parts = and_true (ltb packet.flow F && serials) _ e in
+      let l : packet.flow < F = ltb-true packet.flow F (and_true (ltb packet.flow F) serials parts.0).0 in
+      let entered : (tally_in w (flow_place packet.flow)).entered ≡ (tally_at s packet.flow).entered = ap (λ t. t.entered) (tally_at_read s w h packet.flow l) in
+      rw (count_read s w h, clock_read s w h, sx_read s w h, sy_read s w h, flow_at_read s w h packet.flow l, entered) e
 
   register_true : (place : Place) (at : ℕ) (r : Register) → Stands 0 w at (register_words r) → register_ok s place r ≡ true
       → register_fits w place at ≡ true
@@ -171,12 +171,12 @@ module _ (w : List ℕ) (h : state_number w ≡ 0) where
   register_fits_lem place at e = of (register_in w at) e
     where
       of : (r : Register) → contents_fit w place at r ≡ true → register_ok (state_of w) place r ≡ true
-      of Empty e = refl
-      of (Packet flow serial entry deflections) e =
-          let serials = leb 1 serial && leb serial (tally_in w (flow_place flow)).entered in
-          let parts = and_true (ltb flow (count_in w) && serials) _ e in
-          let l : flow < count_in w = ltb-true flow (count_in w) (and_true (ltb flow (count_in w)) serials parts.0).0 in
-          rw (view_count w, view_tally w flow l, view_flow w flow l) e
+      of None e = refl
+      of (Some packet) e =
+          let serials = leb 1 packet.serial && leb packet.serial (tally_in w (flow_place packet.flow)).entered in
+          let parts = and_true (ltb packet.flow (count_in w) && serials) _ e in
+          let l : packet.flow < count_in w = ltb-true packet.flow (count_in w) (and_true (ltb packet.flow (count_in w)) serials parts.0).0 in
+          rw (view_count w, view_tally w packet.flow l, view_flow w packet.flow l) e
 
   pub state_fits : StateOk (state_of w)
   unfolding state_of plan_in

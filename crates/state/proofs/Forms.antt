@@ -21,6 +21,7 @@ use Rattle.place.specs.Place.{Place, W, N}
 use Rattle.flow.specs.Limits.{most_waiting}
 use Rattle.place.specs.InPlace.{is_in_place}
 use Rattle.std.specs.Prelude.{Some, None}
+use Rattle.state.specs.Register.{packet_with}
 use Rattle.state.specs.declared.Tally.{Tally}
 use Rattle.state.specs.Layout.{header_size, zeros_place, register_size, flow_place}
 use Rattle.state.specs.Read.{sx_in, sy_in, count_in, clock_in, flow_in, tally_in, register_in, router_in}
@@ -86,7 +87,7 @@ flow_facts w f e =
     record { numbers = numbers_facts _ _ _ both.0; tally = tally_facts _ _ _ both.1 }
 
 -- an empty register is four zeros
-pub empty_facts : (w : List ℕ) (place : Place) (at : ℕ) → register_fits w place at ≡ true → register_in w at ≡ Empty
+pub empty_facts : (w : List ℕ) (place : Place) (at : ℕ) → register_fits w place at ≡ true → register_in w at ≡ None
     → (k : ℕ) → k < register_size → get_or w (at + k) 0 ≡ 0
 unfolding register_fits
 empty_facts w place at e r k h =
@@ -99,7 +100,7 @@ unfolding register_fits
 empty_fits w place at e = rw e
 
 pub packet_facts : (w : List ℕ) (place : Place) (at : ℕ) → register_fits w place at ≡ true
-    → (flow serial entry deflections : ℕ) → register_in w at ≡ Packet flow serial entry deflections
+    → (flow serial entry deflections : ℕ) → register_in w at ≡ Some (packet_with flow serial entry deflections)
     → PacketFacts w place flow serial entry deflections
 unfolding register_fits
 packet_facts w place at e flow serial entry deflections r =

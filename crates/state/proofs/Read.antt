@@ -43,11 +43,11 @@ module _ (w : List ℕ) (at : ℕ) where
   }
 
   pub register_read : (r : Register) → Stands 0 w at (register_words r) → register_in w at ≡ r
-  register_read Empty s = rw (rw add-zero at (s.same 0 (omega arith)))
-  register_read (Packet flow serial entry deflections) s =
-      let first : get_or w at 0 ≡ flow + 1 = rw add-zero at (s.same 0 (omega arith)) in
-      let less : flow + 1 - 1 ≡ flow = omega arith in
-      rw (first, s.same 1 (omega arith), s.same 2 (omega arith), s.same 3 (omega arith), ne_eqb (flow + 1) 0 (λ e. omega arith), less)
+  register_read None s = rw (rw add-zero at (s.same 0 (omega arith)))
+  register_read (Some packet) s =
+      let first : get_or w at 0 ≡ packet.flow + 1 = rw add-zero at (s.same 0 (omega arith)) in
+      let less : packet.flow + 1 - 1 ≡ packet.flow = omega arith in
+      rw (first, s.same 1 (omega arith), s.same 2 (omega arith), s.same 3 (omega arith), ne_eqb (packet.flow + 1) 0 (λ e. omega arith), less)
 
 -- W and N of a cell
 module _ (w : List ℕ) (at : ℕ) (c : Cell) (s : Stands 0 w at (cell_words c)) where

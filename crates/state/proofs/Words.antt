@@ -20,8 +20,8 @@ pub router_below : (F sx sy x y : ℕ) → x < sx → y < sy → router_place F 
 router_below F sx sy x y h k = omega (arith, cell_below sx sy x y h k)
 
 pub length_register : (r : Register) → length (register_words r) ≡ register_size
-length_register Empty = refl
-length_register (Packet flow serial entry deflections) = refl
+length_register None = refl
+length_register (Some packet) = refl
 
 pub length_cell : (c : Cell) → length (cell_words c) ≡ router_size
 length_cell c =
