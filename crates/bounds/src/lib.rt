@@ -4,18 +4,19 @@
 ghost use Rattle.std.specs.Prelude.{◌≡◌, ◌+◌, ◌*◌, ◌≤◌, length};
 ghost use Rattle.flow.specs.Offsets.{port_of};
 ghost use Rattle.flow.specs.Plan.{most_burst, flow_at};
-ghost use Rattle.refusal.specs.Answer.{Done};
+ghost use Rattle.refusal.specs.Answer.{told_value};
 ghost use Rattle.file.specs.Layout.{plan_of};
 ghost use Rattle.turning.specs.Columns.{TurningIn};
 ghost use Rattle.window.specs.Window.{window_of, burst_window_of};
 ghost use Rattle.window.specs.Rivals.{rival_words, RivalsAmong};
 ghost use Rattle.bounds.specs.Inner.{Opened, FlowInFile};
-ghost use Rattle.bounds.specs.Bounds.{asked, window_by, window_answer, is_burst, burst_answer, flight_bound_answer, flight_bound_of};
+ghost use Rattle.bounds.specs.Bounds.{window_answer, is_burst, burst_answer, flight_bound_answer, flight_bound_of};
 
 use file::Trailer;
 use flow::{Flow, Port};
-use plan::Answer;
-use window::{Kept, Window};
+use plan::PlanFile;
+use refusal::{Cause, Refusal};
+use window::Kept;
 
 // Flow number f of an accepted file.
 pub fn flow_at(file: &[u8], t: Trailer, f: u32) -> Flow
@@ -74,7 +75,7 @@ fn burst_in(
     f: u32,
     rivals: &mut [u32],
     packets: u32,
-) -> Window
+) -> Option<u32>
     requires flow_in_file { (FlowInFile file.now t f) × (rival_words * t.count ≤ length rivals.old) }
     requires turning_in { TurningIn (plan_of file.now) columns.now }
     requires le_packets { (1 ≤ packets) × (packets ≤ most_burst) }
@@ -87,14 +88,14 @@ fn burst_in(
     for g in 0..count {
         kept = meet(file, t, columns, own, port, f, g, rivals, kept);
         if kept.fills_link() {
-            return Window::Nothing;
+            return None;
         }
     }
     window::least_burst(rivals, kept.count, packets)
 }
 
 // The window B of so many packets of flow f of an accepted file, by its turning rows. Few flows need little room.
-pub fn burst_of(file: &[u8], t: Trailer, columns: &[u32], f: u32, packets: u32) -> Window
+pub fn burst_of(file: &[u8], t: Trailer, columns: &[u32], f: u32, packets: u32) -> Option<u32>
     requires flow_in_file { (FlowInFile file.now t f) × (TurningIn (plan_of file.now) columns.now) }
     requires le_packets { (1 ≤ packets) × (packets ≤ most_burst) }
     ensures { result ≡ burst_window_of (plan_of file.now) f packets }
@@ -108,7 +109,7 @@ pub fn burst_of(file: &[u8], t: Trailer, columns: &[u32], f: u32, packets: u32) 
 }
 
 // The window T of flow f of an accepted file, with room for its rivals: that of one packet.
-fn window_in(file: &[u8], t: Trailer, columns: &[u32], f: u32, rivals: &mut [u32]) -> Window
+fn window_in(file: &[u8], t: Trailer, columns: &[u32], f: u32, rivals: &mut [u32]) -> Option<u32>
     requires flow_in_file { (FlowInFile file.now t f) × (rival_words * t.count ≤ length rivals.old) }
     requires turning_in { TurningIn (plan_of file.now) columns.now }
     ensures { result ≡ window_of (plan_of file.now) f }
@@ -117,7 +118,7 @@ fn window_in(file: &[u8], t: Trailer, columns: &[u32], f: u32, rivals: &mut [u32
 }
 
 // The window T of flow f of an accepted file, by its turning rows. Few flows need little room.
-pub fn window_of(file: &[u8], t: Trailer, columns: &[u32], f: u32) -> Window
+pub fn window_of(file: &[u8], t: Trailer, columns: &[u32], f: u32) -> Option<u32>
     requires { (FlowInFile file.now t f) × (TurningIn (plan_of file.now) columns.now) }
     ensures { result ≡ window_of (plan_of file.now) f }
 {
@@ -139,92 +140,52 @@ pub fn flight_bound_of(file: &[u8], t: Trailer, columns: &[u32], f: u32) -> u32
     flight::flight_bound(t.sx, t.sy, columns[column], flow)
 }
 
-// 0 for a flow of an accepted file, or the refusal.
-fn ask(file: &[u8], f: u32) -> Answer
-    ensures { result ≡ asked file.now f (Done 0) }
-{
-    match plan::plan_answer(file) {
-        Answer::Refused { number, place } => Answer::Refused { number, place },
-        Answer::Done(_) => {
-            let count = file::trailer_of(file).count;
-            if count <= f {
-                return Answer::Refused {
-                    number: 12,
-                    place: 0,
-                };
-            }
-            Answer::Done(0)
-        }
-    }
-}
-
-// The window, or 14.
-fn window_by(f: u32, window: Window) -> Answer
-    ensures { result ≡ window_by f window }
-{
-    match window {
-        Window::At(least) => Answer::Done(least),
-        Window::Nothing => Answer::Refused {
-            number: 14,
-            place: f,
-        },
-    }
-}
-
+// Flow f's window call on an accepted file.
 // The window call: T, or a refusal.
-pub fn window(file: &[u8], f: u32) -> Answer
-    ensures { result ≡ window_answer file.now f }
+pub fn window(file: &[u8], f: u32) -> Result<u32, Refusal>
+    ensures { told_value result ≡ window_answer file.now f }
 {
-    match ask(file, f) {
-        Answer::Refused { number, place } => Answer::Refused { number, place },
-        Answer::Done(_) => {
-            let t = file::trailer_of(file);
-            let columns = turning_rows(file, t);
-            window_by(f, window_of(file, t, &columns, f))
-        }
+    let plan = PlanFile::open(file)?;
+    let t = plan.trailer();
+    if t.count <= f {
+        return Err(Cause::NotInPlan.into());
     }
+    let columns = turning_rows(file, t);
+    window_of(file, t, &columns, f).ok_or(Cause::NoWindow.at(f))
 }
 
 // A burst has 1 to σ packets.
 fn is_burst(flow: Flow, packets: u32) -> bool
     ensures { result ≡ is_burst flow packets }
 {
-    if packets < 1 {
-        return false;
-    }
-    packets <= flow.burst
+    1 <= packets && packets <= flow.burst
 }
 
 // The burst call: B, or a refusal.
-pub fn burst(file: &[u8], f: u32, packets: u32) -> Answer
-    ensures { result ≡ burst_answer file.now f packets }
+pub fn burst(file: &[u8], f: u32, packets: u32) -> Result<u32, Refusal>
+    ensures { told_value result ≡ burst_answer file.now f packets }
 {
-    match ask(file, f) {
-        Answer::Refused { number, place } => Answer::Refused { number, place },
-        Answer::Done(_) => {
-            let t = file::trailer_of(file);
-            if !is_burst(flow_at(file, t, f), packets) {
-                return Answer::Refused {
-                    number: 20,
-                    place: 0,
-                };
-            }
-            let columns = turning_rows(file, t);
-            window_by(f, burst_of(file, t, &columns, f, packets))
-        }
+    let plan = PlanFile::open(file)?;
+    let t = plan.trailer();
+    if t.count <= f {
+        return Err(Cause::NotInPlan.into());
     }
+    if !is_burst(plan.flow(f), packets) {
+        return Err(Cause::BurstRange.into());
+    }
+    let columns = turning_rows(file, t);
+    burst_of(file, t, &columns, f, packets).ok_or(Cause::NoWindow.at(f))
 }
 
 // The flight call: the flight bound, or a refusal.
-pub fn flight_bound(file: &[u8], f: u32) -> Answer
-    ensures { result ≡ flight_bound_answer file.now f }
+pub fn flight_bound(file: &[u8], f: u32) -> Result<u32, Refusal>
+    ensures { told_value result ≡ flight_bound_answer file.now f }
 {
-    match ask(file, f) {
-        Answer::Refused { number, place } => Answer::Refused { number, place },
-        Answer::Done(_) => {
-            let t = file::trailer_of(file);
-            let columns = turning_rows(file, t);
-            Answer::Done(flight_bound_of(file, t, &columns, f))
-        }
+    let plan = PlanFile::open(file)?;
+    let t = plan.trailer();
+    if t.count <= f {
+        return Err(Cause::NotInPlan.into());
     }
+    let columns = turning_rows(file, t);
+    Ok(flight_bound_of(file, t, &columns, f))
 }

@@ -6,7 +6,7 @@ mod line;
 ghost use Rattle.std.specs.Prelude.{◌≤◌, ◌<◌, length};
 
 use flow::Offerer;
-use plan::Answer;
+use refusal::{Cause, Refusal};
 use std::io;
 use std::io::Write;
 

@@ -10,13 +10,6 @@ ghost use Rattle.conflict.specs.Inner.{Pair};
 
 use flow::{Flow, Port};
 
-// How a flow meets another at its source: not at all, or in conflict with the spread J.
-#[derive(Clone, Copy)]
-pub enum Conflict {
-    Free,
-    Spread(u32),
-}
-
 // A lap round the row for each row of the word among the first n south of g's source.
 fn laps(sx: u32, sy: u32, word: u32, g: Flow, n: u32) -> u32
     requires { (sx ≤ most_size) × ((sy ≤ most_size) × ((word < 2 ^ sy) × ((g.ys < sy) × (n ≤ sy)))) }
@@ -25,53 +18,47 @@ fn laps(sx: u32, sy: u32, word: u32, g: Flow, n: u32) -> u32
     turning::rows_south(sy, word, g.ys, n) * sx
 }
 
-// f's port is E and g's client is another. The word has the rows that turn for g's destination column.
-fn conflict_east(sx: u32, sy: u32, word: u32, f: Flow, g: Flow) -> Conflict
+// With what spread J the two conflict, if they do: f's port is E and g's client is another. The word has the rows that turn for g's destination column.
+fn conflict_east(sx: u32, sy: u32, word: u32, f: Flow, g: Flow) -> Option<u32>
     requires { (Pair sx sy f g) × (word < 2 ^ sy) }
     ensures { result ≡ conflict_east sx sy (is_set word) f g }
 {
     let rows = torus::offset(sy, g.ys, f.ys);
     if rows == 0 {
-        let columns = torus::offset(sx, g.xs, f.xs);
-        if columns < 1 {
-            return Conflict::Free;
-        }
-        if torus::on_way(sx, g.xs, f.xs, g.xd) {
-            return Conflict::Spread(0);
-        }
-        return Conflict::Free;
+        let conflicts = 1 <= torus::offset(sx, g.xs, f.xs) && torus::on_way(sx, g.xs, f.xs, g.xd);
+        return if conflicts { Some(0) } else { None };
     }
     let on_way = torus::on_way(sy, g.ys, f.ys, g.yd);
     let row = if on_way { f.ys } else { turning::NO_ROW };
     if turning::has_row(word, row) {
-        return Conflict::Spread(laps(sx, sy, word, g, rows - 1));
+        return Some(laps(sx, sy, word, g, rows - 1));
     }
-    Conflict::Free
+    None
 }
 
 // f's port is S and g's client is another.
-fn conflict_south(sx: u32, sy: u32, word: u32, f: Flow, g: Flow) -> Conflict
+fn conflict_south(sx: u32, sy: u32, word: u32, f: Flow, g: Flow) -> Option<u32>
     requires { (Pair sx sy f g) × (word < 2 ^ sy) }
     ensures { result ≡ conflict_south sx sy (is_set word) f g }
 {
     if g.xd != f.xs {
-        return Conflict::Free;
+        return None;
     }
     if torus::on_way(sy, g.ys, f.ys, g.yd) {
         let rows = torus::offset(sy, g.ys, f.ys);
-        return Conflict::Spread(laps(sx, sy, word, g, rows));
+        return Some(laps(sx, sy, word, g, rows));
     }
-    Conflict::Free
+    None
 }
 
 // How g, a flow other than f, conflicts with f at f's source, by f's port and the rows that turn for g's destination column.
-pub fn conflict_of(sx: u32, sy: u32, word: u32, f: Flow, port: Port, g: Flow) -> Conflict
+pub fn conflict_of(sx: u32, sy: u32, word: u32, f: Flow, port: Port, g: Flow) -> Option<u32>
     requires pair { (Pair sx sy f g) × (word < 2 ^ sy) }
     requires port_value { port ≡ port_of sx f }
     ensures { result ≡ conflict_by sx sy (is_set word) f g }
 {
     if f.same_client(g) {
-        return Conflict::Spread(0);
+        return Some(0);
     }
     match port {
         Port::East => conflict_east(sx, sy, word, f, g),

@@ -4,6 +4,7 @@
 ghost use Rattle.std.specs.Prelude.{◌∷◌, [], ◌+◌, ◌*◌, ◌<◌, ◌≤◌, length};
 ghost use Rattle.laws.specs.Count.{join_below};
 ghost use Rattle.laws.specs.Written.{Wrote};
+ghost use Rattle.refusal.specs.Cause.{cause_number};
 ghost use Rattle.file.specs.Layout.{plan_of};
 ghost use Rattle.turning.specs.Columns.{TurningIn};
 ghost use Rattle.window.specs.Window.{lone_wait};
@@ -14,8 +15,8 @@ ghost use Rattle.table.specs.Inner.{most_digits, most_field, most_line, most_tab
 
 use file::Trailer;
 use flow::{Flow, Port};
-use plan::Answer;
-use window::Window;
+use plan::PlanFile;
+use refusal::Refusal;
 
 fn put_byte(out: &mut [u8], at: usize, b: u8) -> usize
     requires { at < length out.old }
@@ -65,26 +66,26 @@ fn put_none(out: &mut [u8], at: usize) -> usize
 }
 
 // T, or `-` where there is no window.
-fn put_window(out: &mut [u8], at: usize, window: Window) -> usize
+fn put_window(out: &mut [u8], at: usize, window: Option<u32>) -> usize
     requires { at + most_field ≤ length out.old }
     ensures wrote { Wrote out.old at (window_field (λ T. T) window) result out.new }
     ensures upper_bound { result ≤ at + most_field }
 {
     match window {
-        Window::At(least) => put_field(out, at, least),
-        Window::Nothing => put_none(out, at),
+        Some(least) => put_field(out, at, least),
+        None => put_none(out, at),
     }
 }
 
 // The lone wait, or `-` where there is no window.
-fn put_wait(out: &mut [u8], at: usize, flow: Flow, window: Window) -> usize
+fn put_wait(out: &mut [u8], at: usize, flow: Flow, window: Option<u32>) -> usize
     requires { (WaitFits flow window) × (at + most_field ≤ length out.old) }
     ensures wrote { Wrote out.old at (window_field (lone_wait flow) window) result out.new }
     ensures upper_bound { result ≤ at + most_field }
 {
     match window {
-        Window::At(least) => put_field(out, at, window::lone_wait(flow, least)),
-        Window::Nothing => put_none(out, at),
+        Some(least) => put_field(out, at, window::lone_wait(flow, least)),
+        None => put_none(out, at),
     }
 }
 
@@ -105,7 +106,7 @@ fn put_row(
     f: u32,
     flow: Flow,
     port: Port,
-    window: Window,
+    window: Option<u32>,
     flight: u32,
 ) -> usize
     requires { (WaitFits flow window) × (at + most_line ≤ length out.old) }
@@ -134,14 +135,14 @@ fn put_line(file: &[u8], t: Trailer, columns: &[u32], f: u32, out: &mut [u8], at
     put_row(out, at, f, flow, port, window, flight)
 }
 
-fn put_refused(out: &mut [u8], at: usize, number: u32, place: u32) -> usize
+fn put_refused(out: &mut [u8], at: usize, e: Refusal) -> usize
     requires { at + most_line ≤ length out.old }
-    ensures wrote { Wrote out.old at (refused_line number place) result out.new }
+    ensures wrote { Wrote out.old at (refused_line (cause_number e.cause) e.place) result out.new }
     ensures upper_bound { result ≤ at + most_line }
 {
     let a = put_text(out, at, b"refused");
-    let b = put_field(out, a, number);
-    let c = put_field(out, b, place);
+    let b = put_field(out, a, e.cause.number());
+    let c = put_field(out, b, e.place);
     put_byte(out, c, 10)
 }
 
@@ -166,11 +167,11 @@ pub fn write(file: &[u8], out: &mut [u8]) -> usize
     ensures wrote { Wrote out.old 0 (table_of file.now) result out.new }
     ensures upper_bound { result ≤ most_table }
 {
-    match plan::plan_answer(file) {
-        Answer::Refused { number, place } => put_refused(out, 0, number, place),
-        Answer::Done(_) => {
+    match PlanFile::open(file) {
+        Err(e) => put_refused(out, 0, e),
+        Ok(plan) => {
             let next = put_text(out, 0, b"flow port window flight wait\n");
-            put_lines(file, file::trailer_of(file), out, next)
+            put_lines(file, plan.trailer(), out, next)
         }
     }
 }

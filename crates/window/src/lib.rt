@@ -6,7 +6,6 @@ ghost use Rattle.window.specs.Window.{most_window, least_from, least_window, lon
 ghost use Rattle.flow.specs.Plan.{most_period, most_burst, most_flows};
 ghost use Rattle.window.specs.Rivals.{rival_words, rival_share, whole_link, demand_of, Rivals, RivalOk, gathered, keep_rival};
 
-use conflict::Conflict;
 use flow::Flow;
 
 // Windows run from 1 to 65,535.
@@ -25,13 +24,6 @@ const WHOLE_LINK: u32 = 2147483648;
 pub struct Kept {
     pub count: usize,
     pub rates: u64,
-}
-
-// The window of a flow or of a burst, or that there is none.
-#[derive(Clone, Copy)]
-pub enum Window {
-    At(u32),
-    Nothing,
 }
 
 // What rival number k adds to I(t).
@@ -56,48 +48,48 @@ fn demand_of(rivals: &[u32], n: usize, t: u32) -> u32
 }
 
 // The search for the least window that rivals leave; 1 is none. Where they leave none at t, none is left up to their demand.
-fn search(rivals: &[u32], n: usize) -> Window
+fn search(rivals: &[u32], n: usize) -> Option<u32>
     requires { (Rivals rivals.now n) × (1 ≤ n) }
     ensures { result ≡ least_from (demand_of rivals.now n) most_window 1 }
 {
     let mut t = 2u32;
     loop {
         if MOST_WINDOW < t {
-            break Window::Nothing;
+            break None;
         }
         let d = demand_of(rivals, n, t);
         if d < t {
-            break Window::At(t);
+            break Some(t);
         }
         t = d + 1;
     }
 }
 
 // The least window that the n rivals leave. Without a rival it is 1.
-pub fn least_window(rivals: &[u32], n: usize) -> Window
+pub fn least_window(rivals: &[u32], n: usize) -> Option<u32>
     requires { Rivals rivals.now n }
     ensures { result ≡ least_from (demand_of rivals.now n) most_window 1 }
 {
     if n == 0 {
-        return Window::At(1);
+        return Some(1);
     }
     search(rivals, n)
 }
 
 // The least window that the n rivals leave for so many packets. They add a packet each at least, so there is none below the search's
 // start; and where there is none at t, there is none below the packets and the rivals' demand at t.
-pub fn least_burst(rivals: &[u32], n: usize, packets: u32) -> Window
+pub fn least_burst(rivals: &[u32], n: usize, packets: u32) -> Option<u32>
     requires { (Rivals rivals.now n) × ((1 ≤ packets) × (packets ≤ most_burst)) }
     ensures { result ≡ least_window (λ t. leb (demand_of rivals.now n t + packets) t) }
 {
     let mut t = (n as u32) + packets;
     loop {
         if MOST_WINDOW < t {
-            break Window::Nothing;
+            break None;
         }
         let d = demand_of(rivals, n, t) + packets;
         if d <= t {
-            break Window::At(t);
+            break Some(t);
         }
         t = d;
     }
@@ -121,14 +113,14 @@ fn rate(period: u32) -> u32
 }
 
 // Flow g with its conflict, after the rivals kept so far: three words more if it is one.
-pub fn keep_rival(rivals: &mut [u32], kept: Kept, g: Flow, c: Conflict) -> Kept
+pub fn keep_rival(rivals: &mut [u32], kept: Kept, g: Flow, conflict: Option<u32>) -> Kept
     requires count_in_bounds { (rival_words * kept.count + 2 < length rivals.old) × (kept.rates ≤ whole_link * most_flows) }
     requires le_period { 1 ≤ g.period }
-    ensures { gathered result rivals.new ≡ keep_rival rivals.old kept g c }
+    ensures { gathered result rivals.new ≡ keep_rival rivals.old kept g conflict }
 {
-    match c {
-        Conflict::Free => kept,
-        Conflict::Spread(j) => {
+    match conflict {
+        None => kept,
+        Some(j) => {
             let n = kept.count;
             let at = RIVAL_WORDS * n;
             rivals[at] = g.burst;
