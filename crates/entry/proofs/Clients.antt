@@ -6,6 +6,8 @@ use mathlib.Core.Path.{◌≡◌, ◌∙◌}
 use Prim.Native.Nat.{ℕ, zero, suc, ◌+◌, ◌*◌, ◌≤◌, ◌<◌}
 use native.Mathlib.Omega.{arith}
 use lib.ListN.{length, get_or, set, replicate, get_or-replicate, length-replicate}
+use Rattle.std.specs.Prelude as Prelude
+use Rattle.std.specs.Prelude.{Some, None, IfSome}
 use Rattle.laws.specs.Grid.{cell_index}
 use Rattle.laws.proofs.Grid.{cell_below}
 use Rattle.flow.specs.declared.Flow.{Flow}
@@ -22,47 +24,49 @@ use Rattle.entry.specs.Entrants.{entrant_in, Entrants}
 use Rattle.entry.proofs.Entrant.{xs_of, ys_of, entrants_none, entrants_taken, entrants_mark}
 
 -- no entrants yet, in room for n of them
-pub no_entrants : (w : List ℕ) (n : ℕ) → sx_in w * sy_in w ≤ n → Entrants (state_of w) 0 (replicate n 0)
+pub no_entrants : (w : List ℕ) (n : ℕ) → sx_in w * sy_in w ≤ n → Entrants (state_of w) 0 (replicate n None)
 unfolding state_of plan_in
-no_entrants w n h = entrants_none (state_of w) (replicate n 0) (rw length-replicate h) (λ i k. get_or-replicate n i 0 0 (omega arith))
+no_entrants w n h = entrants_none (state_of w) (replicate n None) (rw length-replicate h) (λ i k. get_or-replicate n i None None (omega arith))
 
 module _ (w : List ℕ) (s : StateFacts w) where
   -- a router has a place among the entrants
-  pub entrant_fits : (n : ℕ) (l : List ℕ) → Entrants (state_of w) n l → (x y : ℕ) → x < sx_in w → y < sy_in w → cell_index (sx_in w) x y < length l
+  pub entrant_fits : (n : ℕ) (l : List (Prelude.Option ℕ)) → Entrants (state_of w) n l → (x y : ℕ) → x < sx_in w → y < sy_in w → cell_index (sx_in w) x y < length l
   unfolding state_of plan_in
   entrant_fits n l e x y h k =
       let room = e.room in
       omega (arith, cell_below (sx_in w) (sy_in w) x y h k)
 
-  pub entrant_found : (n : ℕ) (l : List ℕ) → Entrants (state_of w) n l → (x y : ℕ) → x < sx_in w → y < sy_in w
-      → entrant_in (get_or l (cell_index (sx_in w) x y) 0) ≡ entrant_below (state_of w).plan (view (state_of w)) x y n
+  pub entrant_found : (n : ℕ) (l : List (Prelude.Option ℕ)) → Entrants (state_of w) n l → (x y : ℕ) → x < sx_in w → y < sy_in w
+      → entrant_in (get_or l (cell_index (sx_in w) x y) None) ≡ entrant_below (state_of w).plan (view (state_of w)) x y n
   unfolding state_of plan_in
   entrant_found n l e x y h k = e.at x y h k
 
   -- after all flows: who enters there
-  pub entrant_all : (l : List ℕ) → Entrants (state_of w) (count_in w) l → (x y : ℕ) → x < sx_in w → y < sy_in w
-      → entrant_in (get_or l (cell_index (sx_in w) x y) 0) ≡ entrant (state_of w).plan (view (state_of w)) x y
+  pub entrant_all : (l : List (Prelude.Option ℕ)) → Entrants (state_of w) (count_in w) l → (x y : ℕ) → x < sx_in w → y < sy_in w
+      → entrant_in (get_or l (cell_index (sx_in w) x y) None) ≡ entrant (state_of w).plan (view (state_of w)) x y
   unfolding state_of
   entrant_all l e x y h k = entrant_found (count_in w) l e x y h k ∙ rw (view_count w)
 
   -- a flow of the plan, where there is one
-  pub entrant_most : (x y word : ℕ) → entrant_in word ≡ entrant (state_of w).plan (view (state_of w)) x y → word ≤ count_in w
+  pub entrant_most : (x y : ℕ) (who : Prelude.Option ℕ) → entrant_in who ≡ entrant (state_of w).plan (view (state_of w)) x y
+      → IfSome who (λ f. f < count_in w)
   unfolding entrant_in state_of
-  entrant_most x y word e = rw (← (view_count w)) (most (found (state_of w).plan (view (state_of w)) x y) word e)
+  entrant_most x y who e = most (found (state_of w).plan (view (state_of w)) x y) who e
     where
-      most : {who : Option ℕ} → Found (state_of w).plan (view (state_of w)) x y who → (n : ℕ) → entrant_in n ≡ who → n ≤ length (state_of w).plan.flows
-      most found' zero e = omega arith
-      most (no_entrant unready) (suc f) e = absurd (some-ne-none f e)
-      most (has_entrant g h) (suc f) e = rw (some-injective f g e) h.below
+      most : {at : Option ℕ} → Found (state_of w).plan (view (state_of w)) x y at → (who : Prelude.Option ℕ) → entrant_in who ≡ at
+          → IfSome who (λ f. f < count_in w)
+      most found' None e = tt
+      most (no_entrant unready) (Some f) e = absurd (some-ne-none f e)
+      most (has_entrant g h) (Some f) e = rw (← (view_count w), some-injective f g e) h.below
 
-  -- and the word at a flow's client says whether the flow enters
-  pub entered_found : (l : List ℕ) → Entrants (state_of w) (count_in w) l → (f : ℕ) → f < count_in w
-      → is_flow f (entrant_in (get_or l (cell_index (sx_in w) (xs_of (state_of w) f) (ys_of (state_of w) f)) 0)) ≡ enters (state_of w) f
+  -- and who stands at a flow's client says whether the flow enters
+  pub entered_found : (l : List (Prelude.Option ℕ)) → Entrants (state_of w) (count_in w) l → (f : ℕ) → f < count_in w
+      → is_flow f (entrant_in (get_or l (cell_index (sx_in w) (xs_of (state_of w) f) (ys_of (state_of w) f)) None)) ≡ enters (state_of w) f
   unfolding enters Rule.enters
   entered_found l e f h = rw (entrant_all l e _ _ (flow_ok w s f h).xs_on (flow_ok w s f h).ys_on)
 
   -- the place of flow f's client among the entrants
-  module _ (f : ℕ) (below : f < count_in w) (l : List ℕ) (e : Entrants (state_of w) f l)
+  module _ (f : ℕ) (below : f < count_in w) (l : List (Prelude.Option ℕ)) (e : Entrants (state_of w) f l)
       (φ : Flow) (flow : φ ≡ flow_at (state_of w).plan f) (i : ℕ) (index : i ≡ cell_index (sx_in w) φ.xs φ.ys) where
     client : i ≡ cell_index (sx_in w) (xs_of (state_of w) f) (ys_of (state_of w) f)
     client = index ∙ rw flow
@@ -71,12 +75,12 @@ module _ (w : List ℕ) (s : StateFacts w) where
     client_fits = rw client (entrant_fits f l e _ _ (flow_ok w s f below).xs_on (flow_ok w s f below).ys_on)
 
     -- it has an entrant already, or flow f becomes its entrant
-    pub client_taken : (get_or l i 0 ≡ 0 → ⊥) → Entrants (state_of w) (f + 1) l
+    pub client_taken : (get_or l i None ≡ None → ⊥) → Entrants (state_of w) (f + 1) l
     unfolding state_of plan_in
     client_taken some' =
         entrants_taken (state_of w) f l (flow_ok w s f below).xs_on (flow_ok w s f below).ys_on e (rw client at some')
 
-    pub client_marked : get_or l i 0 ≡ 0 → ready (state_of w).plan (view (state_of w)) f ≡ true → Entrants (state_of w) (f + 1) (set l i (f + 1))
+    pub client_marked : get_or l i None ≡ None → ready (state_of w).plan (view (state_of w)) f ≡ true → Entrants (state_of w) (f + 1) (set l i (Some f))
     unfolding state_of plan_in
     client_marked none' yes' =
         rw client (entrants_mark (state_of w) f l (flow_ok w s f below).xs_on (flow_ok w s f below).ys_on e (rw client at none') yes')

@@ -12,6 +12,8 @@ use borrow.Author.Tests.{eq-eqb, ne_eqb, ltb-true}
 use lib.Dec.{eqb}
 use lib.ListN.{length, get_or, set, length-set}
 use lib.Seq.{get_or-set_same, get_or-set_other}
+use Rattle.std.specs.Prelude as Prelude
+use Rattle.std.specs.Prelude.{Some, None}
 use Rattle.laws.specs.Bounded.{first_of, first_below}
 use Rattle.laws.specs.Grid.{cell_index}
 use Rattle.laws.proofs.Cases.{test, eqb_both, both_eqb}
@@ -24,29 +26,19 @@ use Rattle.cycle.specs.Seen.{view, enters}
 use Rattle.cycle.specs.Step.{next_tally}
 use Rattle.entry.specs.Entrants.{entrant_in, Entrants, tally_after}
 
--- a word names flow f where it is f + 1, and nobody where it is 0
-pub names : (f word : ℕ) → is_flow f (entrant_in word) ≡ eqb word (f + 1)
+no_one : (who : Prelude.Option ℕ) → who ≡ None → entrant_in who ≡ none
 unfolding entrant_in
-names f zero = sym (ne_eqb 0 (f + 1) (λ e. omega arith))
-names f (suc g) =
-    elim (ℕ_discrete g f) [
-      | yes e ↦ rw (eq-eqb g f e, eq-eqb (suc g) (f + 1) (omega arith))
-      | no e ↦ rw (ne_eqb g f e, ne_eqb (suc g) (f + 1) (λ h. e (omega arith)))
-    ]
+no_one who e = rw e
 
-no_one : (word : ℕ) → word ≡ 0 → entrant_in word ≡ none
+some_one : (f : ℕ) → entrant_in (Some f) ≡ some f
 unfolding entrant_in
-no_one word e = rw e
-
-some_one : (f : ℕ) → entrant_in (f + 1) ≡ some f
-unfolding entrant_in
-some_one f = rw add-one
+some_one f = refl
 
 -- the first of the two is there, or it isn't
-first_stays : (word : ℕ) (later : Option ℕ) → (word ≡ 0 → ⊥) → first_of (entrant_in word) later ≡ entrant_in word
+first_stays : (who : Prelude.Option ℕ) (later : Option ℕ) → (who ≡ None → ⊥) → first_of (entrant_in who) later ≡ entrant_in who
 unfolding entrant_in
-first_stays zero later some' = absurd (some' refl)
-first_stays (suc f) later some' = refl
+first_stays None later some' = absurd (some' refl)
+first_stays (Some f) later some' = refl
 
 first_alone : (o : Option ℕ) → first_of o none ≡ o
 first_alone none = refl
@@ -75,53 +67,53 @@ module _ (s : State) where
   stays x y f no' = sym (turn x y f ∙ rw no' (first_alone (lowest x y f)))
 
   -- before the first flow there is no entrant
-  pub entrants_none : (l : List ℕ) → s.plan.sx * s.plan.sy ≤ length l → ((i : ℕ) → i < s.plan.sx * s.plan.sy → get_or l i 0 ≡ 0) → Entrants s 0 l
+  pub entrants_none : (l : List (Prelude.Option ℕ)) → s.plan.sx * s.plan.sy ≤ length l → ((i : ℕ) → i < s.plan.sx * s.plan.sy → get_or l i None ≡ None) → Entrants s 0 l
   unfolding first_below
   entrants_none l long zeros =
       record { room = long; at = λ x y h k. no_one _ (zeros (cell_index s.plan.sx x y) (cell_below s.plan.sx s.plan.sy x y h k)) }
 
   -- a flow that isn't ready leaves the entrants
-  pub entrants_unready : (f : ℕ) (l : List ℕ) → ready s.plan (view s) f ≡ false → Entrants s f l → Entrants s (f + 1) l
+  pub entrants_unready : (f : ℕ) (l : List (Prelude.Option ℕ)) → ready s.plan (view s) f ≡ false → Entrants s f l → Entrants s (f + 1) l
   entrants_unready f l no' old =
       record { room = old.room; at = λ x y h k. old.at x y h k ∙ stays x y f (rw (no', and-false)) }
 
-  module _ (f : ℕ) (l : List ℕ) (hx : xs_of f < s.plan.sx) (hy : ys_of f < s.plan.sy) (old : Entrants s f l) where
-    -- the place of its client, and the word that stands there
+  module _ (f : ℕ) (l : List (Prelude.Option ℕ)) (hx : xs_of f < s.plan.sx) (hy : ys_of f < s.plan.sy) (old : Entrants s f l) where
+    -- the place of its client, and who stands there
     abbrev at_client : ℕ
     at_client = cell_index s.plan.sx (xs_of f) (ys_of f)
 
-    abbrev word : ℕ
-    word = get_or l at_client 0
+    abbrev there : Prelude.Option ℕ
+    there = get_or l at_client None
 
     -- so does one whose client has an entrant
-    pub entrants_taken : (word ≡ 0 → ⊥) → Entrants s (f + 1) l
+    pub entrants_taken : (there ≡ None → ⊥) → Entrants s (f + 1) l
     entrants_taken some' = record { room = old.room; at = λ x y h k. old.at x y h k ∙ same x y (test (is_client s.plan x y f)) }
       where
         same : (x y : ℕ) → (is_client s.plan x y f ≡ true) ⊎ (is_client s.plan x y f ≡ false) → lowest x y f ≡ lowest x y (f + 1)
         same x y (inr away) = stays x y f (rw away)
         same x y (inl here) =
             let e = eqb_both x (xs_of f) y (ys_of f) here in
-            rw (e.0, e.1) (sym (turn (xs_of f) (ys_of f) f ∙ rw (← (old.at (xs_of f) (ys_of f) hx hy)) (first_stays word _ some')))
+            rw (e.0, e.1) (sym (turn (xs_of f) (ys_of f) f ∙ rw (← (old.at (xs_of f) (ys_of f) hx hy)) (first_stays there _ some')))
 
     -- any other becomes its client's
-    pub entrants_mark : word ≡ 0 → ready s.plan (view s) f ≡ true → Entrants s (f + 1) (set l at_client (f + 1))
+    pub entrants_mark : there ≡ None → ready s.plan (view s) f ≡ true → Entrants s (f + 1) (set l at_client (Some f))
     entrants_mark none' yes' = record { room = rw length-set old.room; at = λ x y h k. mark x y h k (test (is_client s.plan x y f)) }
       where
         here : ready_at (xs_of f) (ys_of f) f ≡ true
         here = rw (both_eqb (xs_of f) (xs_of f) (ys_of f) (ys_of f) refl refl, yes')
 
-        own : entrant_in (f + 1) ≡ lowest (xs_of f) (ys_of f) (f + 1)
-        own = some_one f ∙ sym (turn (xs_of f) (ys_of f) f ∙ rw (← (old.at (xs_of f) (ys_of f) hx hy), no_one word none', here))
+        own : entrant_in (Some f) ≡ lowest (xs_of f) (ys_of f) (f + 1)
+        own = some_one f ∙ sym (turn (xs_of f) (ys_of f) f ∙ rw (← (old.at (xs_of f) (ys_of f) hx hy), no_one there none', here))
 
         mark : (x y : ℕ) → x < s.plan.sx → y < s.plan.sy → (is_client s.plan x y f ≡ true) ⊎ (is_client s.plan x y f ≡ false)
-            → entrant_in (get_or (set l at_client (f + 1)) (cell_index s.plan.sx x y) 0) ≡ lowest x y (f + 1)
+            → entrant_in (get_or (set l at_client (Some f)) (cell_index s.plan.sx x y) None) ≡ lowest x y (f + 1)
         mark x y h k (inl here) =
             let e = eqb_both x (xs_of f) y (ys_of f) here in
             let room = old.room in
             let below = cell_below s.plan.sx s.plan.sy (xs_of f) (ys_of f) hx hy in
-            rw (e.0, e.1, get_or-set_same l at_client (f + 1) 0 (omega arith)) own
+            rw (e.0, e.1, get_or-set_same l at_client (Some f) None (omega arith)) own
         mark x y h k (inr away) =
-            ap entrant_in (get_or-set_other l _ _ (f + 1) 0 (λ e. other (cell_one s.plan.sx x y (xs_of f) (ys_of f) h hx e)))
+            ap entrant_in (get_or-set_other l _ _ (Some f) None (λ e. other (cell_one s.plan.sx x y (xs_of f) (ys_of f) h hx e)))
             ∙ old.at x y h k
             ∙ stays x y f (rw away)
           where

@@ -6,6 +6,7 @@ use Prim.Native.Nat.{ℕ, ◌+◌, ◌<◌}
 use native.Mathlib.Omega.{arith}
 use borrow.Author.Tests.{lt-ltb, le-ltb}
 use lib.ListN.{get_or}
+use Rattle.std.specs.Prelude.{Option, None}
 use Rattle.laws.specs.Grid.{cell_index}
 use Rattle.flow.specs.declared.Flow.{Flow}
 use Rattle.flow.specs.declared.Port.{Port}
@@ -30,7 +31,7 @@ use Rattle.entry.proofs.Entrant.{entrants_unready}
 use Rattle.entry.proofs.Clients.{entrant_found}
 
 -- what flow f's turn tells, and the entrants that it leaves
-abbrev pub Turn : (w : List ℕ) → (f : ℕ) → Reason → List ℕ → Type 0
+abbrev pub Turn : (w : List ℕ) → (f : ℕ) → Reason → List (Option ℕ) → Type 0
 Turn w f r l = (r ≡ reason (state_of w).plan (view (state_of w)) f) × Entrants (state_of w) (f + 1) l
 
 module _ (w : List ℕ) (s : StateFacts w) (f : ℕ) (below : f < count_in w) (t : Tally) (tally : t ≡ tally_at (state_of w) f) where
@@ -53,7 +54,7 @@ module _ (w : List ℕ) (s : StateFacts w) (f : ℕ) (below : f < count_in w) (t
   some_token : 0 < t.bucket.tokens → v.token f ≡ true
   some_token h = rw (← tally) (lt-ltb 0 t.bucket.tokens h)
 
-  module _ (l : List ℕ) (e : Entrants (state_of w) f l) where
+  module _ (l : List (Option ℕ)) (e : Entrants (state_of w) f l) where
     pub turn_nothing : t.waiting < 1 → Turn w f NothingWaiting l
     unfolding ready
     turn_nothing h =
@@ -73,7 +74,7 @@ module _ (w : List ℕ) (s : StateFacts w) (f : ℕ) (below : f < count_in w) (t
     unfolding port_open
     port_is = rw flow
 
-    pub turn_closed : (l : List ℕ) → Entrants (state_of w) f l → port_open (state_of w) φ ≡ false → (o : Port) → o ≡ port_of (sx_in w) φ → Turn w f (closed_by o) l
+    pub turn_closed : (l : List (Option ℕ)) → Entrants (state_of w) f l → port_open (state_of w) φ ≡ false → (o : Port) → o ≡ port_of (sx_in w) φ → Turn w f (closed_by o) l
     unfolding ready state_of plan_in
     turn_closed l e shut o port =
         let waits = some_wait h in
@@ -82,8 +83,8 @@ module _ (w : List ℕ) (s : StateFacts w) (f : ℕ) (below : f < count_in w) (t
         rw (port, flow) (sym (told_closed p v f waits token closed), entrants_unready (state_of w) f l (rw (waits, token, closed)) e)
 
     -- an open port: the word at the flow's client after its turn tells whether it entered
-    module _ (open' : port_open (state_of w) φ ≡ true) (l : List ℕ) (e : Entrants (state_of w) (f + 1) l)
-        (r : Bool) (told : r ≡ is_flow f (entrant_in (get_or l (cell_index (sx_in w) φ.xs φ.ys) 0))) where
+    module _ (open' : port_open (state_of w) φ ≡ true) (l : List (Option ℕ)) (e : Entrants (state_of w) (f + 1) l)
+        (r : Bool) (told : r ≡ is_flow f (entrant_in (get_or l (cell_index (sx_in w) φ.xs φ.ys) None))) where
       word_is : r ≡ Rule.enters p v f
       word_is =
           let ok = flow_ok w s f below in
