@@ -1,7 +1,7 @@
 // Why each flow doesn't enter: one walk over the flows. Rests on entry.
 #![tactic(auto)]
 
-ghost use Rattle.std.specs.Prelude.{◌≡◌, ◌+◌, ◌≤◌, length};
+ghost use Rattle.std.specs.Prelude.{◌≡◌, ◌+◌, ◌≤◌, ◌<◌, length};
 ghost use Rattle.router.specs.Reasons.{reason};
 ghost use Rattle.state.specs.Read.{count_in, state_of};
 ghost use Rattle.state.specs.Outcome.{over};

@@ -1,12 +1,13 @@
 -- The routers that a walk visits are on the grid. Rests on the facts of a state.
 use mathlib.Core.List.{List}
 use Prim.Native.Nat.{ℕ, ◌<◌}
+use Rattle.std.specs.Prelude.{Option}
 use Rattle.state.specs.Read.{sx_in, sy_in}
 use Rattle.output.specs.declared.Grid.{Grid}
 use Rattle.output.specs.Grid.{OnGrid}
 use Rattle.routing.specs.Walk.{AtRouter, Walking}
 
-module _ (w : List ℕ) (g : Grid) (entrants : List ℕ) (walk : Walking w g entrants) where
+module _ (w : List ℕ) (g : Grid) (entrants : List (Option ℕ)) (walk : Walking w g entrants) where
   pub column : (x : ℕ) → x < g.sx → x < sx_in w
   column x h = rw walk.grid at h
 
