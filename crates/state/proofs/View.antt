@@ -35,6 +35,10 @@ module _ (w : List ℕ) where
   unfolding plan_in
   view_flow f h = get_d_tabulate (count_in w) (λ f. flow_in w (flow_place f)) f no_flow h
 
+  pub flow_seen : (f : ℕ) → f < count_in w → flow_at (state_of w).plan f ≡ flow_in w (flow_place f)
+  unfolding state_of
+  flow_seen f h = view_flow f h
+
   pub view_tally : (f : ℕ) → f < count_in w → tally_at (state_of w) f ≡ tally_in w (flow_place f)
   unfolding state_of
   view_tally f h = get_d_tabulate (count_in w) (λ f. tally_in w (flow_place f)) f (fresh_tally 0) h

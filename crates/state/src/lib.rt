@@ -133,6 +133,7 @@ impl StateWords<'_> {
     }
 
     // The plan numbers of flow f.
+    #[tactic(auto, using(crate::proofs::View::flow_seen))]
     pub fn flow(&self, f: u32) -> Flow
         requires { f < count_in self.now }
         ensures value { result ≡ flow_at (state_of self.now).plan f }
@@ -142,6 +143,7 @@ impl StateWords<'_> {
     }
 
     // Its bucket, entered and waiting.
+    #[tactic(auto, using(crate::proofs::View::view_tally))]
     pub fn tally(&self, f: u32) -> Tally
         requires { f < count_in self.now }
         ensures value { result ≡ tally_at (state_of self.now) f }
@@ -151,6 +153,7 @@ impl StateWords<'_> {
     }
 
     // The registers of the router in column x and row y.
+    #[tactic(auto, using(crate::proofs::View::view_cell))]
     pub fn cell(&self, x: u32, y: u32) -> Cell
         requires { (x < sx_in self.now) × (y < sy_in self.now) }
         ensures value { result ≡ cell_at (state_of self.now) x y }
@@ -263,6 +266,7 @@ pub fn cell_in(w: &[u32], at: usize) -> Cell
 }
 
 // Neither register of the router at a place has a packet.
+#[tactic(auto, using(laws::proofs::Zeros::or_none))]
 pub fn is_vacant(w: &[u32], at: usize) -> bool
     requires { at + router_size ≤ length w.now }
     ensures { result ≡ eqb (get_or w.now at 0) 0 && eqb (get_or w.now (at + register_size) 0) 0 }

@@ -1,0 +1,2 @@
+-- What a test of all numbers below a bound tells.
+pub mod All
