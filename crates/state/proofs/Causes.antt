@@ -1,5 +1,5 @@
 -- Laws of checks that `?` ends: no cause has number 0, and a cause becomes the refusal that the definitions give. Rests on specs/Outcome.
-use mathlib.Core.Path.{◌≡◌, sym, ap, ◌∙◌}
+use mathlib.Core.Path.{◌≡◌}
 use Prim.Native.Nat.{ℕ, ◌≤◌}
 use native.Mathlib.Omega.{arith}
 use Rattle.std.specs.Prelude.{Result, Ok, Err, IsErrAnd}

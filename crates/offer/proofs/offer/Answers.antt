@@ -1,5 +1,5 @@
 -- `offer`: a refusal by the state's number or the offer's, or one more waiting.
-use mathlib.Core.Path.{◌≡◌, refl, sym, ◌∙◌}
+use mathlib.Core.Path.{◌≡◌, sym, ◌∙◌}
 use mathlib.Core.List.{List}
 use Prim.Native.Nat.{ℕ, ◌<◌}
 use Rattle.flow.specs.declared.Offerer.{Offerer}
