@@ -88,10 +88,10 @@ fn leap(state: &mut [u32], most: u32) -> u32
     ensures { Leapt state.old most result state.new }
 {
     let now = StateWords::of(state);
+    let clock = now.clock();
     if !is_vacant(&now) {
         return 0;
     }
-    let clock = now.clock();
     let k = all_stay_out(&now, most.min(state::LAST_CLOCK - clock));
     if k == 0 {
         return 0;

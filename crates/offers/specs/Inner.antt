@@ -1,5 +1,6 @@
 -- A set under way, as inner functions promise it: its first entries are added to the state that the memory had before, or taken back.
-use Rattle.std.specs.Prelude.{List, ◌≢◌, ◌≡◌, ℕ, ◌-◌, ◌≤◌, ◌<◌, length}
+use Rattle.std.specs.Prelude.{List, ◌≡◌, ℕ, ◌-◌, ◌≤◌, ◌<◌, length}
+use Rattle.refusal.specs.Answer.{Answer, Done, Refused}
 use Rattle.state.specs.State.{State, tally_at}
 use Rattle.state.specs.Words.{state_words}
 use Rattle.state.specs.Read.{state_of}
@@ -19,10 +20,17 @@ pub record Added (before flows : List ℕ) (n : ℕ) (memory : List ℕ) : Type 
   pub passed : (k : ℕ) → k < n → entry_number (state_of before) flows k ≡ 0
   pub words : memory ≡ over (state_words (with_first (state_of before) flows n)) before
 
--- and no entry more can be added: the next would be refused, or there is none
-pub record AddedMost (before flows : List ℕ) (n : ℕ) (memory : List ℕ) : Type 0 where
+-- so many that the next would be refused with that number
+pub record Stopped (before flows : List ℕ) (number n : ℕ) (memory : List ℕ) : Type 0 where
   pub added : Added before flows n memory
-  pub next : n < length flows → entry_number (state_of before) flows n ≢ 0
+  pub inside : n < length flows
+  pub here : number ≡ entry_number (state_of before) flows n
+  pub some : 1 ≤ number
+
+-- by the answer: all are added, or those before the place
+abbrev pub AddedAs : (before flows : List ℕ) → Answer → (memory : List ℕ) → Type 0
+AddedAs before flows (Done v) memory = Added before flows (length flows) memory
+AddedAs before flows (Refused number place) memory = Stopped before flows number place memory
 
 -- some memory had the first n entries added
 abbrev pub WasAdded : (flows : List ℕ) → (n : ℕ) → (memory : List ℕ) → Type 0

@@ -10,26 +10,24 @@ ghost use Rattle.state.specs.Facts.{StateFlow};
 ghost use Rattle.state.specs.Forms.{state_number};
 ghost use Rattle.state.specs.Outcome.{outcome, over};
 ghost use Rattle.cycle.specs.Set.{offer_set_on};
-ghost use Rattle.offers.specs.Inner.{less_state, AddedMost, WasAdded, IsBack};
+ghost use Rattle.offers.specs.Inner.{less_state, AddedAs, WasAdded, IsBack};
 
 use flow::Offerer;
 use refusal::Refusal;
 use state::StateWords;
 
-// Adds the entries in their order, up to the first that would be refused; how many it added.
-fn add_entries(state: &mut [u32], flows: &[u32]) -> usize
+// Adds the entries in their order, up to the first that would be refused; its refusal.
+fn add_entries(state: &mut [u32], flows: &[u32]) -> Result<(), Refusal>
     requires { state_number state.old ≡ 0 }
-    ensures { AddedMost state.old flows.now result state.new }
+    ensures { AddedAs state.old flows.now (told result) state.new }
 {
-    let mut added = 0;
-    for &f in flows {
-        if offer::check_offer(Offerer::Sonar, &StateWords::of(state), f).is_err() {
-            return added;
+    for (k, &f) in flows.iter().enumerate() {
+        if let Err(cause) = offer::check_offer(Offerer::Sonar, &StateWords::of(state), f) {
+            return Err(cause.at(k as u32));
         }
         offer::wait_more(state, f);
-        added += 1;
     }
-    added
+    Ok(())
 }
 
 // A packet less waits at flow f.
@@ -47,8 +45,8 @@ fn take_back(state: &mut [u32], flows: &[u32], n: usize)
     requires { WasAdded flows.now n state.old }
     ensures { IsBack flows.now n state.old state.new }
 {
-    for &f in flows[..n].iter().rev() {
-        wait_less(state, f);
+    for k in (0..n).rev() {
+        wait_less(state, flows[k]);
     }
 }
 
@@ -57,11 +55,9 @@ pub fn offer_set(state: &mut [u32], flows: &[u32]) -> Result<(), Refusal>
     ensures { outcome (told result) state.new ≡ offer_set_on state.old flows.now }
 {
     valid::check_state(state)?;
-    let n = add_entries(state, flows);
-    if n == flows.len() {
-        return Ok(());
+    if let Err(refusal) = add_entries(state, flows) {
+        take_back(state, flows, refusal.place as usize);
+        return Err(refusal);
     }
-    let refused = offer::check_offer(Offerer::Sonar, &StateWords::of(state), flows[n]);
-    take_back(state, flows, n);
-    refused.map_err(|cause| cause.at(n as u32))
+    Ok(())
 }

@@ -1,8 +1,8 @@
 -- The flows' words at reset (01, State memory). Only promises of inner functions name these.
-use Rattle.std.specs.Prelude.{List, ℕ, ◌+◌, ◌*◌}
+use Rattle.std.specs.Prelude.{List, ℕ, length}
 use Rattle.laws.specs.Count.{join_below}
 use Rattle.flow.specs.declared.Flow.{Flow}
-use Rattle.file.specs.Layout.{record_size, flow_from}
+use Rattle.flow.specs.Plan.{Plan, flow_at}
 use Rattle.state.specs.State.{fresh_tally}
 use Rattle.state.specs.Words.{flow_words}
 
@@ -10,6 +10,6 @@ use Rattle.state.specs.Words.{flow_words}
 abbrev pub fresh_words : Flow → List ℕ
 fresh_words f = flow_words f (fresh_tally f.burst)
 
--- those of the flows of `count` records from a start on
-abbrev pub fresh_flows : (file : List ℕ) → (start count : ℕ) → List ℕ
-fresh_flows file start count = join_below count (λ f. fresh_words (flow_from file (start + record_size * f)))
+-- those of a plan's flows
+abbrev pub fresh_flows : Plan → List ℕ
+fresh_flows p = join_below (length p.flows) (λ f. fresh_words (flow_at p f))

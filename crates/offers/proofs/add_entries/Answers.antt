@@ -1,49 +1,41 @@
 -- `add_entries`: entry by entry, up to the first that would be refused. Rests on Added.
 use mathlib.Core.Path.{◌≡◌, refl, sym, ◌∙◌}
 use native.Mathlib.Omega.{arith}
-use lib.ListN.{length}
+use Rattle.refusal.specs.Answer.{number_in}
 use Rattle.state.specs.Read.{state_of}
+use Rattle.state.proofs.Causes.{cause_some}
 use Rattle.state.proofs.Forms.{state_facts}
 use Rattle.cycle.specs.Set.{entry_number}
-use Rattle.offers.proofs.Added.{added_none, added_forms, added_number, next_flow, added_more}
+use Rattle.offers.proofs.Added.{added_none, added_few, added_forms, added_number, next_flow, added_more}
 use Rattle.offers.proofs.add_entries.Goals as goal
-use Rattle.offers.proofs.add_entries.Goals.{After-offer_number}
+use Rattle.offers.proofs.add_entries.Goals.{After-check_offer}
 
 pub loop-k-init : goal.loop-k-init
-loop-k-init c = (omega arith, (refl, added_none _ _ c.requires))
+loop-k-init c = (refl, added_none _ _ c.requires)
 
-pub offer_number-requires : goal.offer_number-requires
-offer_number-requires c = state_facts _ (added_forms _ _ _ _ c.loop-k.invariant.1.1)
+pub of-requires : goal.of-requires
+of-requires c = state_facts _ (added_forms _ _ _ _ c.loop-k.invariant.1)
 
 -- the number that was found is the entry's
-found : (c : goal.After-offer_number) → let a = c.args in
-    c.offer_number.result ≡ entry_number (state_of a.state.now) a.flows.now c.loop-k.k
-found c = c.offer_number.ensures ∙ added_number _ _ _ _ c.loop-k.invariant.1.1 _ refl
+found : (c : goal.After-check_offer) → number_in c.check_offer.result ≡ entry_number (state_of c.args.state.now) c.args.flows.now c.loop-k.k
+found c = rw c.of.ensures at c.check_offer.ensures ∙ added_number _ _ _ _ c.loop-k.invariant.1 _ refl
 
-pub returns-then-offer_number-ne0 : goal.returns-then-offer_number-ne0
-returns-then-offer_number-ne0 c =
-    record { added = c.loop-k.invariant.1.1; next = λ inside e. c.if-offer_number-ne0.true (found (goal.at.returns-then-offer_number-ne0 c).After-offer_number ∙ e) }
+-- as many entries as were added
+pub overflow_cast-k : goal.overflow_cast-k
+overflow_cast-k c = omega (arith, added_few _ _ _ _ c.loop-k.invariant.1)
+
+pub returns-in-Err : goal.returns-in-Err
+returns-in-Err c =
+    let number = rw c.in-Err.is at (found (goal.at.returns-in-Err c).After-check_offer) in
+    rw c.at.ensures
+    (record { added = c.loop-k.invariant.1; inside = omega arith; here = number; some = cause_some c.in-Err.cause })
 
 pub wait_more-requires : goal.wait_more-requires
 wait_more-requires c =
-    next_flow _ _ _ _ c.loop-k.invariant.1.1 _ refl (omega arith) (sym (found (goal.at.wait_more-requires c).After-offer_number) ∙ c.if-offer_number-ne0.false)
+    let free = rw c.in_default.is at (found (goal.at.wait_more-requires c).After-check_offer) in
+    next_flow _ _ _ _ c.loop-k.invariant.1 _ refl (omega arith) (sym free)
 
 pub loop-k-preserved : goal.loop-k-preserved
-loop-k-preserved c = (
-  omega arith,
-  (
-    c.wait_more.auto.state ∙ c.loop-k.invariant.1.0,
-    added_more _ _ _ _ c.loop-k.invariant.1.1 _ refl (omega arith) (sym (found (goal.at.loop-k-preserved c).After-offer_number) ∙ c.if-offer_number-ne0.false) _ c.wait_more.ensures,
-  ),
-)
-
-pub returns : goal.returns
-returns c =
-    let e : c.loop-k.k ≡ length c.args.flows.now = omega arith in
-    record { added = rw e at c.loop-k.invariant.1.1; next = λ inside. absurd (omega arith) }
-
-pub shape_of-state-then-offer_number-ne0 : goal.shape_of-state-then-offer_number-ne0
-shape_of-state-then-offer_number-ne0 c = c.loop-k.invariant.1.0
-
-pub shape_of-state : goal.shape_of-state
-shape_of-state c = c.loop-k.invariant.1.0
+loop-k-preserved c =
+    let free = rw c.in_default.is at (found (goal.at.loop-k-preserved c).After-check_offer) in
+    (c.wait_more.auto.state ∙ c.loop-k.invariant.0, added_more _ _ _ _ c.loop-k.invariant.1 _ refl (omega arith) (sym free) _ c.wait_more.ensures)
