@@ -11,7 +11,7 @@ use Rattle.flow.specs.Ranges.{FlowOk}
 use Rattle.place.specs.Place.{Place, W, N}
 use Rattle.place.proofs.InPlace.{north_deflected}
 use Rattle.state.specs.Register.{Register}
-use Rattle.std.specs.Prelude.{Some, None}
+use Rattle.std.specs.Prelude.{Some, None, IfSome}
 use Rattle.state.specs.Layout.{register_size, router_size, flow_place}
 use Rattle.state.specs.Inner.{most_routers, flow_of}
 use Rattle.state.specs.State.{tally_at, cell_at}
@@ -22,6 +22,11 @@ use Rattle.state.proofs.Forms.{packet_facts}
 use Rattle.state.proofs.View.{view_flow, view_tally, view_cell}
 use Rattle.state.proofs.Words.{router_below}
 use Rattle.cycle.specs.Sent.{deflections_of}
+
+-- the packet of a register, where it holds one
+pub packet_below : {n : ℕ} (r : Register) → flow_of r < n → IfSome r (λ p. p.flow < n)
+packet_below None h = tt
+packet_below (Some packet) h = h
 
 module _ (w : List ℕ) (s : StateFacts w) where
   -- a router's registers lie in the memory

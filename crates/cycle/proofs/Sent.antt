@@ -4,8 +4,9 @@ use mathlib.Core.Bool.{Bool, true, false, cond, false≢true}
 use mathlib.Core.Logic.{inl, inr}
 use mathlib.Core.Option.{Option}
 use mathlib.Core.Path.{◌≡◌, refl, sym, ap, ◌∙◌}
-use Prim.Native.Nat.{ℕ, ◌+◌}
+use Prim.Native.Nat.{ℕ}
 use lib.Dec.{eqb}
+use Rattle.std.specs.Prelude.{Some, None, is_none}
 use Rattle.laws.proofs.Cases.{test}
 use Rattle.flow.specs.declared.Port.{Port}
 use Rattle.flow.specs.declared.Port.TheVariants.{East, South}
@@ -14,22 +15,15 @@ use Rattle.flow.specs.Plan.{Plan, flow_at}
 use Rattle.router.specs.Rule.{Seen, no_packet, turns_south, Way, via, leave, same_way, at_home, way_by, takes, is_open}
 use Rattle.router.proofs.Entrant.{Found, no_entrant, has_entrant, found, ready_parts}
 use Rattle.state.specs.Register.{Register, packet_with}
-use Rattle.std.specs.Prelude.{Some, None}
 use Rattle.state.specs.State.{State, cell_at}
 use Rattle.cycle.specs.Seen.{shown, seen, view}
 use Rattle.cycle.specs.Step.{deflected, entering, sends_by, sent_by, carried, leaving, delivered}
-use Rattle.cycle.specs.Sent.{is_empty, sent_east, sent_south, entering_by, eastward, southward, exits}
+use Rattle.cycle.specs.Sent.{sent_east, sent_south, entering_by, eastward, southward, exits}
 
 -- a register shows no packet where it is empty
-pub shows_none : (p : Plan) (r : Register) → no_packet (shown p r) ≡ is_empty r
+pub shows_none : (p : Plan) (r : Register) → no_packet (shown p r) ≡ is_none r
 shows_none p None = refl
 shows_none p (Some packet) = refl
-
--- what exits is a packet
-pub exits_some : (p : Plan) (x y : ℕ) (r : Register) → exits p x y r ≡ true → is_empty r ≡ false
-unfolding exits
-exits_some p x y None e = absurd (false≢true e)
-exits_some p x y (Some packet) e = refl
 
 -- by a way out, of what goes E and what goes S, where that exits or not
 abbrev by : Way → (exit : Bool) → (east south : Register) → Register

@@ -1,6 +1,7 @@
 -- What a router sends, as the code decides it: whether W goes S, then whether what goes S exits. Only promises of inner functions name
 -- these; proofs/Sent ties them to the definitions of Step.
-use Rattle.std.specs.Prelude.{Bool, true, false, cond, ℕ}
+use Rattle.std.specs.Prelude.{Bool, false, cond, ℕ, Some, None}
+use Rattle.std.specs.Option.{option_or}
 use Rattle.std.proofs.Math.Option.{Option, none, some}
 use Rattle.flow.specs.declared.Port.{Port}
 use Rattle.flow.specs.declared.Port.TheVariants.{East, South}
@@ -8,7 +9,6 @@ use Rattle.flow.specs.Offsets.{port_of, same_port}
 use Rattle.flow.specs.Plan.{Plan, flow_at}
 use Rattle.router.specs.Rule.{turns_south, at_home, entrant}
 use Rattle.state.specs.Register.{Register}
-use Rattle.std.specs.Prelude.{Some, None}
 use Rattle.state.specs.State.{State, cell_at}
 use Rattle.cycle.specs.Seen.{shown, view}
 use Rattle.cycle.specs.Step.{deflected, entering}
@@ -18,21 +18,12 @@ abbrev pub deflections_of : Register → ℕ
 deflections_of None = 0
 deflections_of (Some packet) = packet.deflections
 
-abbrev pub is_empty : Register → Bool
-is_empty None = true
-is_empty (Some packet) = false
-
--- the packet of r, or else the other one
-abbrev pub or_else : (r other : Register) → Register
-or_else None other = other
-or_else (Some packet) other = Some packet
-
 -- what goes E and what goes S, by whether the W packet goes S
 abbrev pub sent_east : (turning : Bool) → (west north client : Register) → Register
-sent_east turning west north client = cond turning (deflected north) (or_else west client)
+sent_east turning west north client = cond turning (deflected north) (option_or west client)
 
 abbrev pub sent_south : (turning : Bool) → (west north client : Register) → Register
-sent_south turning west north client = cond turning west (or_else north client)
+sent_south turning west north client = cond turning west (option_or north client)
 
 -- the packet that enters by a port, by the flow that enters there
 unfoldable pub entering_by : State → Port → Option ℕ → Register

@@ -1,4 +1,4 @@
-// What a router does with its packets, and the state read as values. Rests on state.
+// What a router does with its packets. Rests on state.
 #![tactic(auto)]
 
 ghost use Rattle.std.specs.Prelude.{◌≡◌, ◌<◌, Some, IfSome};
@@ -55,26 +55,23 @@ pub fn sent_south(
 }
 
 // A W packet in column x goes S.
+#[tactic(auto, unfolding(router::specs::Rule::turns_south))]
 pub fn turns_south(state: &StateWords, x: u32, west: Option<Packet>) -> bool
     requires { IfSome west (λ p. p.flow < count_in state.now) }
     ensures { result ≡ turns_south x (shown (state_of state.now).plan west) }
 {
-    match west {
-        None => false,
-        Some(p) => x == state.flow(p.flow).xd,
-    }
+    matches!(west, Some(p) if x == state.flow(p.flow).xd)
 }
 
 // A packet that goes S from the router in column x and row y exits there.
+#[tactic(auto, unfolding(crate::specs::Sent::exits))]
 pub fn exits(state: &StateWords, x: u32, y: u32, r: Option<Packet>) -> bool
     requires { IfSome r (λ p. p.flow < count_in state.now) }
     ensures { result ≡ exits (state_of state.now).plan x y r }
 {
-    match r {
-        None => false,
-        Some(p) => {
-            let f = state.flow(p.flow);
-            x == f.xd && y == f.yd
-        }
-    }
+    let Some(p) = r else {
+        return false;
+    };
+    let f = state.flow(p.flow);
+    x == f.xd && y == f.yd
 }

@@ -3,11 +3,12 @@ use mathlib.Core.Bool.{true}
 use mathlib.Core.List.{List}
 use mathlib.Core.Option.{Option, some-injective, some-ne-none}
 use mathlib.Core.Path.{◌≡◌, ◌∙◌}
-use Prim.Native.Nat.{ℕ, zero, suc, ◌+◌, ◌*◌, ◌≤◌, ◌<◌}
+use Prim.Native.Nat.{ℕ, ◌+◌, ◌*◌, ◌≤◌, ◌<◌}
 use native.Mathlib.Omega.{arith}
 use lib.ListN.{length, get_or, set, replicate, get_or-replicate, length-replicate}
 use Rattle.std.specs.Prelude as Prelude
 use Rattle.std.specs.Prelude.{Some, None, IfSome}
+use Rattle.std.specs.Option.{option_or}
 use Rattle.laws.specs.Grid.{cell_index}
 use Rattle.laws.proofs.Grid.{cell_below}
 use Rattle.flow.specs.declared.Flow.{Flow}
@@ -21,7 +22,7 @@ use Rattle.state.proofs.View.{view_count}
 use Rattle.cycle.specs.Seen.{view, enters}
 use Rattle.cycle.proofs.Facts.{flow_ok}
 use Rattle.entry.specs.Entrants.{entrant_in, Entrants}
-use Rattle.entry.proofs.Entrant.{xs_of, ys_of, entrants_none, entrants_taken, entrants_mark}
+use Rattle.entry.proofs.Entrant.{xs_of, ys_of, entrants_none, entrants_marked}
 
 -- no entrants yet, in room for n of them
 pub no_entrants : (w : List ℕ) (n : ℕ) → sx_in w * sy_in w ≤ n → Entrants (state_of w) 0 (replicate n None)
@@ -74,13 +75,7 @@ module _ (w : List ℕ) (s : StateFacts w) where
     pub client_fits : i < length l
     client_fits = rw client (entrant_fits f l e _ _ (flow_ok w s f below).xs_on (flow_ok w s f below).ys_on)
 
-    -- it has an entrant already, or flow f becomes its entrant
-    pub client_taken : (get_or l i None ≡ None → ⊥) → Entrants (state_of w) (f + 1) l
+    -- where it is ready, it is that client's entrant, unless there is one
+    pub client_marked : ready (state_of w).plan (view (state_of w)) f ≡ true → Entrants (state_of w) (f + 1) (set l i (option_or (get_or l i None) (Some f)))
     unfolding state_of plan_in
-    client_taken some' =
-        entrants_taken (state_of w) f l (flow_ok w s f below).xs_on (flow_ok w s f below).ys_on e (rw client at some')
-
-    pub client_marked : get_or l i None ≡ None → ready (state_of w).plan (view (state_of w)) f ≡ true → Entrants (state_of w) (f + 1) (set l i (Some f))
-    unfolding state_of plan_in
-    client_marked none' yes' =
-        rw client (entrants_mark (state_of w) f l (flow_ok w s f below).xs_on (flow_ok w s f below).ys_on e (rw client at none') yes')
+    client_marked yes' = rw client (entrants_marked (state_of w) f l (flow_ok w s f below).xs_on (flow_ok w s f below).ys_on e yes')

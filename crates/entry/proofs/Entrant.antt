@@ -4,16 +4,16 @@ use mathlib.Core.List.{List}
 use mathlib.Core.Logic.{◌⊎◌, inl, inr}
 use mathlib.Core.Option.{Option, none, some}
 use mathlib.Core.Path.{◌≡◌, refl, sym, ap, ◌∙◌}
-use Prim.Native.Nat.{ℕ, zero, suc, ◌+◌, ◌*◌, ◌≤◌, ◌<◌}
-use native.Mathlib.Decide.{ℕ_discrete}
+use Prim.Native.Nat.{ℕ, ◌+◌, ◌*◌, ◌≤◌, ◌<◌}
 use native.Mathlib.Numerals.{add-one}
 use native.Mathlib.Omega.{arith}
-use borrow.Author.Tests.{eq-eqb, ne_eqb, ltb-true}
-use lib.Dec.{eqb}
+use borrow.Author.Tests.{ltb-true}
+use lib.Dec.{eqb, ltb}
 use lib.ListN.{length, get_or, set, length-set}
 use lib.Seq.{get_or-set_same, get_or-set_other}
 use Rattle.std.specs.Prelude as Prelude
 use Rattle.std.specs.Prelude.{Some, None}
+use Rattle.std.specs.Option.{option_eq, option_or}
 use Rattle.laws.specs.Bounded.{first_of, first_below}
 use Rattle.laws.specs.Grid.{cell_index}
 use Rattle.laws.proofs.Cases.{test, eqb_both, both_eqb}
@@ -24,21 +24,23 @@ use Rattle.router.proofs.Entrant.{entering, ready_parts}
 use Rattle.state.specs.State.{State, tally_at}
 use Rattle.cycle.specs.Seen.{view, enters}
 use Rattle.cycle.specs.Step.{next_tally}
-use Rattle.entry.specs.Entrants.{entrant_in, Entrants, tally_after}
+use Rattle.entry.specs.Entrants.{port_open, entrant_in, Entrants, tally_after}
 
 no_one : (who : Prelude.Option ℕ) → who ≡ None → entrant_in who ≡ none
 unfolding entrant_in
 no_one who e = rw e
 
-some_one : (f : ℕ) → entrant_in (Some f) ≡ some f
+-- who stands there, or else the later one
+first_stands : (who : Prelude.Option ℕ) (f : ℕ) → first_of (entrant_in who) (some f) ≡ entrant_in (option_or who (Some f))
 unfolding entrant_in
-some_one f = refl
+first_stands None f = refl
+first_stands (Some g) f = refl
 
--- the first of the two is there, or it isn't
-first_stays : (who : Prelude.Option ℕ) (later : Option ℕ) → (who ≡ None → ⊥) → first_of (entrant_in who) later ≡ entrant_in who
+-- flow f is the one who stands there
+pub is_who : (f : ℕ) (who : Prelude.Option ℕ) → option_eq eqb who (Some f) ≡ is_flow f (entrant_in who)
 unfolding entrant_in
-first_stays None later some' = absurd (some' refl)
-first_stays (Some f) later some' = refl
+is_who f None = refl
+is_who f (Some g) = refl
 
 first_alone : (o : Option ℕ) → first_of o none ≡ o
 first_alone none = refl
@@ -85,35 +87,25 @@ module _ (s : State) where
     abbrev there : Prelude.Option ℕ
     there = get_or l at_client None
 
-    -- so does one whose client has an entrant
-    pub entrants_taken : (there ≡ None → ⊥) → Entrants s (f + 1) l
-    entrants_taken some' = record { room = old.room; at = λ x y h k. old.at x y h k ∙ same x y (test (is_client s.plan x y f)) }
-      where
-        same : (x y : ℕ) → (is_client s.plan x y f ≡ true) ⊎ (is_client s.plan x y f ≡ false) → lowest x y f ≡ lowest x y (f + 1)
-        same x y (inr away) = stays x y f (rw away)
-        same x y (inl here) =
-            let e = eqb_both x (xs_of f) y (ys_of f) here in
-            rw (e.0, e.1) (sym (turn (xs_of f) (ys_of f) f ∙ rw (← (old.at (xs_of f) (ys_of f) hx hy)) (first_stays there _ some')))
-
-    -- any other becomes its client's
-    pub entrants_mark : there ≡ None → ready s.plan (view s) f ≡ true → Entrants s (f + 1) (set l at_client (Some f))
-    entrants_mark none' yes' = record { room = rw length-set old.room; at = λ x y h k. mark x y h k (test (is_client s.plan x y f)) }
+    -- one that is ready is its client's entrant, unless that has one already
+    pub entrants_marked : ready s.plan (view s) f ≡ true → Entrants s (f + 1) (set l at_client (option_or there (Some f)))
+    entrants_marked yes' = record { room = rw length-set old.room; at = λ x y h k. mark x y h k (test (is_client s.plan x y f)) }
       where
         here : ready_at (xs_of f) (ys_of f) f ≡ true
         here = rw (both_eqb (xs_of f) (xs_of f) (ys_of f) (ys_of f) refl refl, yes')
 
-        own : entrant_in (Some f) ≡ lowest (xs_of f) (ys_of f) (f + 1)
-        own = some_one f ∙ sym (turn (xs_of f) (ys_of f) f ∙ rw (← (old.at (xs_of f) (ys_of f) hx hy), no_one there none', here))
+        own : entrant_in (option_or there (Some f)) ≡ lowest (xs_of f) (ys_of f) (f + 1)
+        own = sym (turn (xs_of f) (ys_of f) f ∙ rw (← (old.at (xs_of f) (ys_of f) hx hy), here) (first_stands there f))
 
         mark : (x y : ℕ) → x < s.plan.sx → y < s.plan.sy → (is_client s.plan x y f ≡ true) ⊎ (is_client s.plan x y f ≡ false)
-            → entrant_in (get_or (set l at_client (Some f)) (cell_index s.plan.sx x y) None) ≡ lowest x y (f + 1)
+            → entrant_in (get_or (set l at_client (option_or there (Some f))) (cell_index s.plan.sx x y) None) ≡ lowest x y (f + 1)
         mark x y h k (inl here) =
             let e = eqb_both x (xs_of f) y (ys_of f) here in
             let room = old.room in
             let below = cell_below s.plan.sx s.plan.sy (xs_of f) (ys_of f) hx hy in
-            rw (e.0, e.1, get_or-set_same l at_client (Some f) None (omega arith)) own
+            rw (e.0, e.1, get_or-set_same l at_client (option_or there (Some f)) None (omega arith)) own
         mark x y h k (inr away) =
-            ap entrant_in (get_or-set_other l _ _ (Some f) None (λ e. other (cell_one s.plan.sx x y (xs_of f) (ys_of f) h hx e)))
+            ap entrant_in (get_or-set_other l _ _ (option_or there (Some f)) None (λ e. other (cell_one s.plan.sx x y (xs_of f) (ys_of f) h hx e)))
             ∙ old.at x y h k
             ∙ stays x y f (rw away)
           where
@@ -126,6 +118,12 @@ module _ (s : State) where
   enters_has f yes' =
       let r = ready_parts s.plan (view s) f (entering s.plan (view s) f yes').is_ready in
       (ltb-true 0 _ r.token, ltb-true 0 _ r.waits)
+
+  -- what the rule asks of it
+  pub ready_is : (f : ℕ) → ready s.plan (view s) f
+      ≡ ltb 0 (tally_at s f).waiting && ltb 0 (tally_at s f).bucket.tokens && port_open s (flow_at s.plan f)
+  unfolding ready port_open
+  ready_is f = refl
 
   pub next_tally_lem : (f : ℕ) → next_tally s f ≡ tally_after (flow_at s.plan f) (tally_at s f) (enters s f)
   unfolding next_tally tally_after

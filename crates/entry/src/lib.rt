@@ -39,21 +39,23 @@ fn ready(state: &StateWords, f: u32) -> bool
 }
 
 // A flow's tally after a cycle.
+#[tactic(auto, unfolding(crate::specs::Entrants::tally_after, bucket::specs::Regulator::after_cycle))]
 fn tally_after(flow: Flow, t: Tally, enters: bool) -> Tally
     requires count_lt_period { (t.bucket.count < flow.period) × (t.entered < last_clock) }
     requires le_tokens { enters ≡ true → (1 ≤ t.bucket.tokens) × (1 ≤ t.waiting) }
     ensures { result ≡ tally_after flow t enters }
 {
     if enters {
-        return Tally {
+        Tally {
             bucket: t.bucket.spend().count(flow.burst, flow.period),
             entered: t.entered + 1,
             waiting: t.waiting - 1,
-        };
-    }
-    Tally {
-        bucket: t.bucket.count(flow.burst, flow.period),
-        ..t
+        }
+    } else {
+        Tally {
+            bucket: t.bucket.count(flow.burst, flow.period),
+            ..t
+        }
     }
 }
 
@@ -63,13 +65,11 @@ pub fn enter(state: &StateWords, f: u32, entrants: &mut [Option<u32>])
     requires entrants { Entrants (state_of state.now) f entrants.old }
     ensures { Entrants (state_of state.now) (f + 1) entrants.new }
 {
-    if !ready(state, f) {
-        return;
-    }
-    let flow = state.flow(f);
-    let client = state::router_index(state.sx(), flow.xs, flow.ys);
-    if entrants[client].is_none() {
-        entrants[client] = Some(f);
+    if ready(state, f) {
+        let flow = state.flow(f);
+        let client = state::router_index(state.sx(), flow.xs, flow.ys);
+        let entrant = &mut entrants[client];
+        *entrant = entrant.or(Some(f));
     }
 }
 
@@ -84,6 +84,7 @@ pub fn find_entrants(state: &StateWords, entrants: &mut [Option<u32>])
 }
 
 // Flow f is its client's entrant.
+#[tactic(auto, using(crate::proofs::Entrant::is_who))]
 pub fn entered(entrants: &[Option<u32>], sx: u32, flow: Flow, f: u32) -> bool
     requires sx_le_most_size { (sx ≤ most_size) × ((flow.xs < sx) × (flow.ys < most_size)) }
     requires ys_in_bounds { (cell_index sx flow.xs flow.ys < length entrants.now) × (f < most_flows) }

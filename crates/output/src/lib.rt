@@ -1,16 +1,17 @@
 // Where what a router sends goes: its neighbours' next registers, or the delivery memory. Rests on cycle.
 #![tactic(auto)]
 
-ghost use Rattle.std.specs.Prelude.{◌≡◌, ◌+◌, ◌*◌, ◌<◌, ◌≤◌, Some, length};
+ghost use Rattle.std.specs.Prelude.{◌≡◌, ◌+◌, ◌*◌, ◌<◌, ◌≤◌, length};
 ghost use Rattle.std.proofs.lemmas.List.Edits.{sets};
-ghost use Rattle.flow.specs.declared.Port.TheVariants.{East, South};
 ghost use Rattle.flow.specs.Plan.{most_flows};
 ghost use Rattle.flow.specs.Limits.{exit_size};
+ghost use Rattle.router.specs.Links.{reach};
 ghost use Rattle.router.specs.Delivery.{words_of};
 ghost use Rattle.state.specs.Inner.{flow_of};
 ghost use Rattle.cycle.specs.Step.{leaving};
-ghost use Rattle.output.specs.Grid.{OnGrid, registers_of, push, ExitRoom};
+ghost use Rattle.output.specs.Grid.{OnGrid, torus_of, registers_of, register_place, push, ExitRoom};
 
+use flow::Port;
 use state::Packet;
 
 // The grid of a state's routers: columns, rows, and the flows in front of the registers.
@@ -21,51 +22,49 @@ pub struct Grid {
     pub flows: usize,
 }
 
-// Writes what goes E to the W register to the east.
-pub fn push_east(grid: Grid, x: u32, y: u32, east: Option<Packet>, next: &mut [u32])
-    requires { (OnGrid grid x y) × ((flow_of east < most_flows) × (registers_of grid ≤ length next.old)) }
-    ensures { next.new ≡ push grid x y East east next.old }
-{
-    let router = state::router_index(grid.sx, torus::next(grid.sx, x), y);
-    state::put_register(next, state::ROUTER_SIZE * router, east);
+impl Grid {
+    // Where the register that an output of the router in column x and row y reaches stands among the registers: the W register to the
+    // east, or the N register to the south.
+    fn reached(self, x: u32, y: u32, output: Port) -> usize
+        requires { OnGrid self x y }
+        ensures { result ≡ register_place self.sx (reach (torus_of self) x y output) }
+    {
+        match output {
+            Port::East => {
+                state::ROUTER_SIZE * state::router_index(self.sx, torus::next(self.sx, x), y)
+            }
+            Port::South => {
+                state::ROUTER_SIZE * state::router_index(self.sx, x, torus::next(self.sy, y))
+                    + state::REGISTER_SIZE
+            }
+        }
+    }
+
+    // Writes what goes out by an output to the register that it reaches.
+    pub fn push(self, x: u32, y: u32, output: Port, packet: Option<Packet>, next: &mut [u32])
+        requires { (OnGrid self x y) × ((flow_of packet < most_flows) × (registers_of self ≤ length next.old)) }
+        ensures { next.new ≡ push self x y output packet next.old }
+    {
+        state::put_register(next, self.reached(x, y, output), packet);
+    }
 }
 
-// Writes what goes S, and doesn't exit, to the N register to the south.
-pub fn push_south(grid: Grid, x: u32, y: u32, south: Option<Packet>, next: &mut [u32])
-    requires { (OnGrid grid x y) × ((flow_of south < most_flows) × (registers_of grid ≤ length next.old)) }
-    ensures { next.new ≡ push grid x y South south next.old }
-{
-    let router = state::router_index(grid.sx, x, torus::next(grid.sy, y));
-    state::put_register(
-        next,
-        state::ROUTER_SIZE * router + state::REGISTER_SIZE,
-        south,
-    );
-}
-
-// Writes the five words of a packet that exits.
-fn put_exit(delivery: &mut [u32], at: usize, p: Packet, clock: u32)
-    requires { at + exit_size ≤ length delivery.old }
-    ensures { delivery.new ≡ sets delivery.old at (words_of (leaving clock (Some p))) }
-{
-    delivery[at] = p.flow;
-    delivery[at + 1] = p.serial;
-    delivery[at + 2] = p.entry;
-    delivery[at + 3] = clock;
-    delivery[at + 4] = p.deflections;
-}
-
-// Writes the words of a packet that exits, if there is one, behind those of `count` exits, and counts it.
+// Writes the five words of a packet that exits, if there is one, behind those of `count` exits, and counts it.
 pub fn deliver(exit: Option<Packet>, clock: u32, delivery: &mut [u32], count: u32) -> u32
     requires { ExitRoom count 1 delivery.old }
     ensures value { result ≡ count + length (leaving clock exit) }
     ensures delivery_after { delivery.new ≡ sets delivery.old (exit_size * count) (words_of (leaving clock exit)) }
 {
-    match exit {
-        None => count,
-        Some(p) => {
-            put_exit(delivery, cycle::EXIT_SIZE * (count as usize), p, clock);
-            count + 1
-        }
-    }
+    let Some(p) = exit else {
+        return count;
+    };
+    let at = cycle::EXIT_SIZE * (count as usize);
+    delivery[at..at + cycle::EXIT_SIZE].copy_from_slice(&[
+        p.flow,
+        p.serial,
+        p.entry,
+        clock,
+        p.deflections,
+    ]);
+    count + 1
 }

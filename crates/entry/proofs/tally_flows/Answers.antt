@@ -33,11 +33,6 @@ below c = c.loop-f-test.true
 room : (c : goal.After-flow_place-at) → Entrants (state_of (words c)) (count_in (words c)) c.args.entrants.now
 room c = c.requires.all_entrants
 
-pub flow_in-flow-requires : goal.flow_in-flow-requires
-flow_in-flow-requires c =
-    let long = (facts c).long in
-    rw c.flow_place-at.ensures (omega (arith, below c, c.loop-f.invariant.1.0))
-
 -- the flow's numbers and tally are the state's
 flow : (c : goal.After-flow_in-flow) → c.flow_in-flow.result ≡ flow_at (state_of (words (goal.at.After-flow_in-flow c).After-flow_place-at)).plan (number (goal.at.After-flow_in-flow c).After-flow_place-at)
 flow c =
@@ -76,12 +71,6 @@ tally_after-requires c =
       le_tokens = λ yes'. enters_has _ _ (sym (enter (goal.at.tally_after-requires c).After-entered-enters) ∙ yes');
     })
 
-pub put_tally-requires : goal.put_tally-requires
-put_tally-requires c =
-    let here = (goal.at.put_tally-requires c).After-flow_place-at in
-    let long = (facts here).long in
-    rw c.flow_place-at.ensures (omega (arith, below here, c.loop-f.invariant.1.0))
-
 -- the tally written is the state's next
 next : (c : goal.After-tally_after) → c.tally_after.result ≡ next_tally (state_of (words (goal.at.After-tally_after c).After-flow_place-at)) (number (goal.at.After-tally_after c).After-flow_place-at)
 next c =
@@ -94,21 +83,5 @@ loop-f-preserved c =
     let more = turned_more _ (facts here) _ _ (below here) _ _ old.1.1 c.flow_place-at.ensures _ (next (goal.at.loop-f-preserved c).After-tally_after) in
     (omega arith, (c.put_tally.auto.w ∙ old.1.0, c.put_tally.ensures ∙ more))
 
-pub returns : goal.returns
-returns c =
-    let e : c.loop-f.f ≡ count_in c.args.state.now = omega arith in
-    rw e at c.loop-f.invariant.1.1
-
-pub overflow_step-f : goal.overflow_step-f
-overflow_step-f c =
-    let here = (goal.at.overflow_step-f c).After-flow_place-at in
-    omega (arith, below here, (facts here).header.count_most)
-
 pub loop-f-init : goal.loop-f-init
 loop-f-init c = (omega arith, (refl, turns_none _ _))
-
-pub tally_in-tally-requires : goal.tally_in-tally-requires
-tally_in-tally-requires c = flow_in-flow-requires (goal.at.tally_in-tally-requires c).After-flow_place-at
-
-pub shape_of-state : goal.shape_of-state
-shape_of-state c = c.loop-f.invariant.1.0

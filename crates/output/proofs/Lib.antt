@@ -1,0 +1,2 @@
+-- The registers that outputs reach.
+pub mod Reach
