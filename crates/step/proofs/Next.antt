@@ -7,6 +7,7 @@ use native.Mathlib.Omega.{arith}
 use borrow.Author.Tests.{lt-ltb}
 use lib.ListN.{length, get_or, set, take, drop, replicate, length-replicate, get_or-replicate}
 use lib.Seq.{sets, length-take-le}
+use Rattle.std.specs.Prelude.{None}
 use Rattle.laws.specs.Grid.{cell_index}
 use Rattle.laws.specs.Turns.{turns}
 use Rattle.laws.proofs.Bounded.{get_d_tabulate}
@@ -31,7 +32,7 @@ use Rattle.step.specs.Next.{Stepping, Room, next_words}
 
 -- room for n routers is enough for a torus with no more
 pub room_for : (w delivery : List ℕ) (n : ℕ) → Stepping w delivery → sx_in w * sy_in w ≤ n
-    → Room w (replicate n 0) (replicate (router_size * n) 0) delivery
+    → Room w (replicate n None) (replicate (router_size * n) 0) delivery
 room_for w delivery n s few =
     record {
       stepping = s;
