@@ -1,6 +1,7 @@
 -- The laws of the state and its words.
 pub mod Words
 pub mod Over
+pub mod Causes
 pub mod Holds
 pub mod Read
 pub mod View
