@@ -1,6 +1,6 @@
 -- What many steps ask for and keep, turn by turn: a leap, or a step behind the exits so far. Only promises of inner functions name these;
 -- proofs/Loop ties them to how far the steps have come.
-use Rattle.std.specs.Prelude.{Option, List, ◌++◌, ◌≡◌, ℕ, ◌+◌, ◌-◌, ◌*◌, ◌≤◌, ◌<◌, length, take, drop}
+use Rattle.std.specs.Prelude.{Option, List, ◌++◌, ◌≡◌, ℕ, ◌+◌, ◌-◌, ◌*◌, ◌≤◌, length, take, drop}
 use Rattle.flow.specs.Limits.{exit_size, most_delivered, step_number}
 use Rattle.router.specs.Delivery.{words_of}
 use Rattle.state.specs.Words.{state_words}

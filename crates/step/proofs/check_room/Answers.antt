@@ -1,6 +1,5 @@
 -- `check_room`: the definition's own tests.
 use borrow.Author.Tests.{lt-ltb, le-ltb, eq-eqb, ne_eqb}
-use native.Mathlib.Omega.{arith}
 use Rattle.state.specs.Read.{plan_in, state_of}
 use Rattle.flow.specs.Limits.{step_number}
 use Rattle.step.proofs.check_room.Goals as goal
