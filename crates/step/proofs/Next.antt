@@ -7,6 +7,7 @@ use native.Mathlib.Omega.{arith}
 use borrow.Author.Tests.{lt-ltb}
 use lib.ListN.{length, get_or, set, take, drop, replicate, length-replicate, get_or-replicate}
 use lib.Seq.{sets, length-take-le}
+use Rattle.std.specs.Prelude.{None}
 use Rattle.laws.specs.Grid.{cell_index}
 use Rattle.laws.specs.Turns.{turns}
 use Rattle.laws.proofs.Bounded.{get_d_tabulate}
@@ -27,14 +28,12 @@ use Rattle.cycle.specs.Step.{next_tally, next_cell, step_state}
 use Rattle.entry.proofs.Clients.{no_entrants}
 use Rattle.routing.specs.Walk.{registers_in, pushed_all}
 use Rattle.routing.proofs.Push.{pushed_cell, length_pushed}
-use Rattle.step.specs.Next.{Stepping, Room, next_words}
+use Rattle.step.specs.Next.{Room, next_words}
 
 -- room for n routers is enough for a torus with no more
-pub room_for : (w delivery : List ℕ) (n : ℕ) → Stepping w delivery → sx_in w * sy_in w ≤ n
-    → Room w (replicate n 0) (replicate (router_size * n) 0) delivery
-room_for w delivery n s few =
+pub room_for : (w : List ℕ) (n : ℕ) → sx_in w * sy_in w ≤ n → Room w (replicate n None) (replicate (router_size * n) 0)
+room_for w n few =
     record {
-      stepping = s;
       registers_fit = rw length-replicate (omega arith);
       registers_clear = λ i h. get_or-replicate (router_size * n) i 0 0 (omega arith);
       no_entrants = no_entrants w n few;

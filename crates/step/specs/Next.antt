@@ -1,6 +1,7 @@
 -- What a step needs, and the words that it leaves, part by part.
 -- Only promises of inner functions name these; proofs/ ties them to the definitions of Calls.
 use Rattle.std.specs.Prelude.{Option, List, ◌≡◌, ℕ, ◌+◌, ◌*◌, ◌≤◌, ◌<◌, length, get_or, set, take}
+use Rattle.std.specs.Borrow.{MutBor}
 use Rattle.std.proofs.lemmas.List.Edits.{sets}
 use Rattle.laws.specs.Turns.{turns}
 use Rattle.flow.specs.Limits.{last_clock, exit_size}
@@ -30,12 +31,41 @@ pub record Judged (w delivery : List ℕ) (number : ℕ) : Type 0 where
       step_on w delivery
       ≡ outcome (Done (length (deliveries s))) (lent (over (state_words (step_state s)) w) (over (words_of (deliveries s)) delivery))
 
--- with room for the entrants, of which there are none yet, and for the next registers, which are cleared
-pub record Room (w : List ℕ) (entrants : List (Option ℕ)) (registers delivery : List ℕ) : Type 0 where
-  pub stepping : Stepping w delivery
+-- room for the entrants, of which there are none yet, and for the next registers, which are cleared
+pub record Room (w : List ℕ) (entrants : List (Option ℕ)) (registers : List ℕ) : Type 0 where
   pub registers_fit : registers_in w ≤ length registers
   pub registers_clear : (i : ℕ) → i < registers_in w → get_or registers i 0 ≡ 0
   pub no_entrants : Entrants (state_of w) 0 entrants
+
+-- a call may be made on a state w and a memory beside it, whatever its room
+abbrev pub Runs : (MutBor (List ℕ) → MutBor (List ℕ) → MutBor (List (Option ℕ)) → MutBor (List ℕ) → Type 0) → (w beside : List ℕ) → Type 0
+Runs pre w beside =
+    (s b : MutBor (List ℕ)) (entrants : MutBor (List (Option ℕ))) (registers : MutBor (List ℕ))
+    → s.now ≡ w → b.now ≡ beside → Room w entrants.now registers.now → pre s b entrants registers
+
+-- the call was made on them with some room, and gave r and left w' and beside'
+pub record Ran {R : Type 0}
+    (post : MutBor (List ℕ) → MutBor (List ℕ) → MutBor (List (Option ℕ)) → MutBor (List ℕ) → R
+    → MutBor (List ℕ) → MutBor (List ℕ) → MutBor (List (Option ℕ)) → MutBor (List ℕ) → Type 0)
+    (w beside : List ℕ) (r : R) (w' beside' : List ℕ) : Type 0 where
+  pub state : MutBor (List ℕ)
+  pub memory : MutBor (List ℕ)
+  pub entrants : MutBor (List (Option ℕ))
+  pub registers : MutBor (List ℕ)
+  pub state_after : MutBor (List ℕ)
+  pub memory_after : MutBor (List ℕ)
+  pub entrants_after : MutBor (List (Option ℕ))
+  pub registers_after : MutBor (List ℕ)
+  pub before : (state.now ≡ w) × (memory.now ≡ beside)
+  pub room : Room w entrants.now registers.now
+  pub ran : post state memory entrants registers r state_after memory_after entrants_after registers_after
+  pub after : (state_after.now ≡ w') × (memory_after.now ≡ beside')
+
+-- a cycle: the words of the state after it, the exits' words, and their count
+pub record Stepped (w delivery : List ℕ) (exits : ℕ) (w' delivery' : List ℕ) : Type 0 where
+  pub state_after : w' ≡ over (state_words (step_state (state_of w))) w
+  pub value : exits ≡ length (deliveries (state_of w))
+  pub delivery_after : delivery' ≡ over (words_of (deliveries (state_of w))) delivery
 
 -- the words w, with every next tally, the next clock, and these registers behind the flows
 unfoldable pub next_words : (w registers : List ℕ) → List ℕ

@@ -1,29 +1,21 @@
 // One step on a state's words. Rests on valid, entry and routing.
 #![tactic(auto)]
 
-ghost use Rattle.std.specs.Prelude.{◌≡◌, ◌+◌, ◌*◌, ◌<◌, ◌≤◌, length, take};
+ghost use Rattle.std.specs.Prelude.{◌≡◌, ◌≤◌, length};
 ghost use Rattle.std.proofs.lemmas.List.Edits.{sets};
 ghost use Rattle.refusal.specs.Answer.{told_value, number_in};
-ghost use Rattle.state.specs.Words.{state_words};
 ghost use Rattle.state.specs.Read.{count_in, state_of};
-ghost use Rattle.state.specs.Outcome.{outcome, lent, over};
+ghost use Rattle.state.specs.Facts.{StateFacts};
+ghost use Rattle.state.specs.Outcome.{outcome, lent};
 ghost use Rattle.flow.specs.Limits.{step_number};
 ghost use Rattle.router.specs.Delivery.{words_of};
 ghost use Rattle.entry.specs.Entrants.{Entrants, AllEntered};
 ghost use Rattle.routing.specs.Walk.{registers_in, pushed_all};
-ghost use Rattle.step.specs.Next.{Stepping, Judged, Room, next_words};
-ghost use Rattle.cycle.specs.Step.{step_state, deliveries, step_on};
+ghost use Rattle.step.specs.Next.{Stepping, Judged, Room, Runs, Ran, Stepped, next_words};
+ghost use Rattle.cycle.specs.Step.{deliveries, step_on};
 
 use refusal::{Cause, Refusal};
 use state::StateWords;
-
-// Copies n words to a place.
-fn copy(from: &[u32], to: &mut [u32], at: usize, n: usize)
-    requires { (n ≤ length from.now) × (at + n ≤ length to.old) }
-    ensures { to.new ≡ sets to.old at (take n from.now) }
-{
-    to[at..at + n].copy_from_slice(&from[..n]);
-}
 
 // Who enters, the next registers and the exits' words; the count of exits.
 fn find_next(
@@ -32,7 +24,8 @@ fn find_next(
     registers: &mut [u32],
     delivery: &mut [u32],
 ) -> u32
-    requires { Room state.now entrants.old registers.old delivery.old }
+    requires stepping { Stepping state.now delivery.old }
+    requires room { Room state.now entrants.old registers.old }
     ensures entrants { Entrants (state_of state.now) (count_in state.now) entrants.new }
     ensures registers_after { registers.new ≡ pushed_all state.now registers.old }
     ensures value { result ≡ length (deliveries (state_of state.now)) }
@@ -53,52 +46,68 @@ fn store_next(state: &mut [u32], entrants: &[Option<u32>], registers: &[u32])
     let clock = state[state::CLOCK];
     entry::tally_flows(state, entrants);
     state::put_clock(state, clock + 1);
-    copy(
-        registers,
-        state,
-        state::flow_place(flows),
-        state::ROUTER_SIZE * routers,
-    );
+    let place = state::flow_place(flows);
+    let size = state::ROUTER_SIZE * routers;
+    state[place..place + size].copy_from_slice(&registers[..size]);
 }
 
-// One cycle, with room for the entrants and for the next registers.
+// Runs f on a state and on a memory beside it, with room for the entrants and for the next registers. A small torus gets little room.
+pub fn with_room<R, F: FnOnce(&mut [u32], &mut [u32], &mut [Option<u32>], &mut [u32]) -> R>(
+    state: &mut [u32],
+    beside: &mut [u32],
+    f: F,
+) -> R
+    requires facts { StateFacts state.old }
+    requires callable { Runs (F.pre f) state.old beside.old }
+    ensures { Ran (F.post f) state.old beside.old result state.new beside.new }
+{
+    let routers = state[state::SX] * state[state::SY];
+    if routers <= 16 {
+        f(
+            state,
+            beside,
+            &mut [None; 16],
+            &mut [0; state::ROUTER_SIZE * 16],
+        )
+    } else if routers <= 64 {
+        f(
+            state,
+            beside,
+            &mut [None; 64],
+            &mut [0; state::ROUTER_SIZE * 64],
+        )
+    } else {
+        f(
+            state,
+            beside,
+            &mut [None; state::MOST_ROUTERS],
+            &mut [0; state::ROUTER_SIZE * state::MOST_ROUTERS],
+        )
+    }
+}
+
+// One cycle, with room for the entrants and for the next registers: the state's words, the exits' words, and their count.
 pub fn advance_in(
     state: &mut [u32],
+    delivery: &mut [u32],
     entrants: &mut [Option<u32>],
     registers: &mut [u32],
-    delivery: &mut [u32],
 ) -> u32
-    requires { Room state.old entrants.old registers.old delivery.old }
-    ensures state_after { state.new ≡ over (state_words (step_state (state_of state.old))) state.old }
-    ensures value { result ≡ length (deliveries (state_of state.old)) }
-    ensures delivery_after { delivery.new ≡ over (words_of (deliveries (state_of state.old))) delivery.old }
+    requires stepping { Stepping state.old delivery.old }
+    requires room { Room state.old entrants.old registers.old }
+    ensures { Stepped state.old delivery.old result state.new delivery.new }
 {
     let exits = find_next(&StateWords::of(state), entrants, registers, delivery);
     store_next(state, entrants, registers);
     exits
 }
 
-// One cycle: the state's words, the exits' words, and their count. A small torus gets little room.
-fn advance(state: &mut [u32], delivery: &mut [u32]) -> u32
+// One cycle, with room of its own.
+pub fn advance(state: &mut [u32], delivery: &mut [u32]) -> u32
     requires { Stepping state.old delivery.old }
-    ensures state_after { state.new ≡ over (state_words (step_state (state_of state.old))) state.old }
-    ensures value { result ≡ length (deliveries (state_of state.old)) }
-    ensures delivery_after { delivery.new ≡ over (words_of (deliveries (state_of state.old))) delivery.old }
+    ensures { Stepped state.old delivery.old result state.new delivery.new }
 {
-    let routers = state[state::SX] * state[state::SY];
-    if routers <= 16 {
-        let mut entrants = [None; 16];
-        let mut registers = [0u32; state::ROUTER_SIZE * 16];
-        return advance_in(state, &mut entrants, &mut registers, delivery);
-    }
-    if routers <= 64 {
-        let mut entrants = [None; 64];
-        let mut registers = [0u32; state::ROUTER_SIZE * 64];
-        return advance_in(state, &mut entrants, &mut registers, delivery);
-    }
-    let mut entrants = [None; state::MOST_ROUTERS];
-    let mut registers = [0u32; state::ROUTER_SIZE * state::MOST_ROUTERS];
-    advance_in(state, &mut entrants, &mut registers, delivery)
+    with_room(state, delivery, advance_in)
 }
 
 // What a step is refused for after the state's own, with so many words of delivery memory.

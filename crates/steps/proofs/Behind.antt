@@ -4,18 +4,18 @@ use mathlib.Core.Logic.{◌≢◌}
 use mathlib.Core.Path.{◌≡◌}
 use Prim.Native.Nat.{ℕ, ◌+◌, ◌-◌, ◌*◌, ◌≤◌, ◌<◌}
 use native.Mathlib.Omega.{arith}
-use lib.ListN.{length, take, drop, replicate, length-drop, length-replicate, drop_of_length-le}
+use lib.ListN.{length, take, drop, replicate, length-drop, length-replicate, get_or-replicate, drop_of_length-le}
+use Rattle.std.specs.Prelude.{Option, None}
 use lib.Seq.{take_all}
 use Rattle.flow.specs.Limits.{last_clock, exit_size}
 use Rattle.flow.proofs.Limits.{StepPasses, step_passes}
 use Rattle.router.proofs.Delivery.{words_length}
-use Rattle.state.specs.Layout.{router_size}
-use Rattle.state.specs.Read.{sx_in, sy_in, clock_in, plan_in, state_of}
+use Rattle.state.specs.Read.{clock_in, plan_in, state_of}
 use Rattle.cycle.specs.Step.{deliveries}
 use Rattle.cycle.proofs.Deliveries.{exits_fit}
-use Rattle.entry.proofs.Entrant.{entrants_none}
-use Rattle.step.specs.Next.{Room}
-use Rattle.steps.specs.Loop.{Checked, Rooms, number_behind, FreeBehind, AllZero}
+use Rattle.entry.proofs.Clients.{no_entrants}
+use Rattle.step.specs.Next.{Stepping, Room}
+use Rattle.steps.specs.Loop.{Rooms, number_behind, FreeBehind}
 
 -- the part of a memory behind a place, lent and given back
 module _ (at : ℕ) (d : List ℕ) where
@@ -36,24 +36,27 @@ module _ (w d : List ℕ) (exits : ℕ) (f : FreeBehind w d exits) where
   pub behind_fits : exit_size * (exits + length (deliveries (state_of w))) ≤ length d
   behind_fits = omega (arith, passes.room_fits, exits_fit (state_of w), words_length (deliveries (state_of w)), f.behind.fits)
 
-  -- it has room, which is cleared
-  pub behind_room : clock_in w < last_clock + 1 → (e g e' g' : List ℕ) → Rooms w e g → length e' ≡ length e → AllZero e' → length g' ≡ length g → AllZero g'
-      → Room w e' g' (drop (exit_size * exits) d)
+  -- it may go on, with the memory behind them
+  pub behind_steps : clock_in w < last_clock + 1 → Stepping w (drop (exit_size * exits) d)
   unfolding state_of plan_in
-  behind_room l e g e' g' rooms le ze lg zg =
+  behind_steps l =
       let other : clock_in w ≢ last_clock = passes.clock_other in
-      let fits = rooms.entrants_fit in
       record {
-        stepping = record {
-          facts = f.behind.facts;
-          clock_below = omega arith;
-          delivery_fits = rw (length-drop (exit_size * exits) d) passes.room_fits;
-        };
-        registers_fit = rw lg rooms.registers_fit;
-        registers_clear = λ i h. zg i (omega (arith, lg, rooms.registers_fit));
-        no_entrants = entrants_none (state_of w) e' (omega arith) (λ i h. ze i (omega arith));
+        facts = f.behind.facts;
+        clock_below = omega arith;
+        delivery_fits = rw (length-drop (exit_size * exits) d) passes.room_fits;
       }
 
--- room for n routers is enough for a torus with no more
-pub rooms_for : (w d : List ℕ) (n : ℕ) → Checked w d → sx_in w * sy_in w ≤ n → (Checked w d) × Rooms w (replicate n 0) (replicate (router_size * n) 0)
-rooms_for w d n checked few = (checked, record { entrants_fit = rw length-replicate few; registers_fit = rw length-replicate (omega arith) })
+-- room that is cleared anew
+pub cleared : (w : List ℕ) (e : List (Option ℕ)) (g : List ℕ) → Rooms w e g → Room w (replicate (length e) None) (replicate (length g) 0)
+cleared w e g rooms =
+    record {
+      registers_fit = rw length-replicate rooms.registers_fit;
+      registers_clear = λ i h. get_or-replicate (length g) i 0 0 (omega (arith, rooms.registers_fit));
+      no_entrants = no_entrants w (length e) rooms.entrants_fit;
+    }
+
+-- a step's room is room for the steps
+pub rooms_of : (w : List ℕ) (e : List (Option ℕ)) (g : List ℕ) → Room w e g → Rooms w e g
+unfolding state_of plan_in
+rooms_of w e g room = record { entrants_fit = room.no_entrants.room; registers_fit = room.registers_fit }

@@ -1,10 +1,11 @@
 -- The front of the delivery memory is all that the steps use. Rests on the laws of many steps.
-use mathlib.Core.List.{List, ◌++◌}
+use mathlib.Core.List.{List, [], ◌++◌, append-nil}
 use mathlib.Core.Path.{◌≡◌, sym, ap, subst, ◌∙◌}
-use Prim.Native.Nat.{ℕ, ◌≤◌}
+use Prim.Native.Nat.{ℕ, ◌≤◌, min}
 use native.Mathlib.Omega.{arith}
-use lib.ListN.{length, take, drop}
+use lib.ListN.{length, take, drop, drop_of_length-le}
 use lib.Seq.{take_all}
+use native.Mathlib.Decide.{dec_lt}
 use Rattle.flow.specs.Limits.{most_delivered, used_room}
 use Rattle.flow.proofs.Limits.{used_length}
 use Rattle.router.specs.Delivery.{words_of}
@@ -35,15 +36,27 @@ module _ (w d : List ℕ) (cycles exits : ℕ) (w' : List ℕ) where
       }
 
   -- a front of that length, and the rest as it was
-  pub front_reached : (m : ℕ) → m ≡ most_delivered → state_number w ≡ 0 → (front : List ℕ)
+  front_most : (m : ℕ) → m ≡ most_delivered → state_number w ≡ 0 → (front : List ℕ)
       → Reached w (take m d) (progress (length (take m d)) (state_of w) cycles) exits w' front → Reached w d reached exits w' (front ++ drop m d)
-  front_reached m e formed front =
+  front_most m e formed front =
       subst (λ k. Reached w (take k d) (progress (length (take k d)) (state_of w) cycles) exits w' front → Reached w d reached exits w' (front ++ drop k d))
       (sym e) (of_most formed front)
 
   -- or all, where there is no more
-  pub all_reached : length d ≤ most_delivered → (d' : List ℕ)
+  all_reached : length d ≤ most_delivered → (d' : List ℕ)
       → Reached w d (progress (length d) (state_of w) cycles) exits w' d' → Reached w d reached exits w' d'
   all_reached few d' r =
       let same : length d ≡ used_room (length d) = sym (ap length (take_all most_delivered d few)) ∙ used_length d in
       subst (λ room. Reached w d (progress room (state_of w) cycles) exits w' d') same r
+
+  -- the front that is used
+  pub front_reached : (m : ℕ) → m ≡ min (length d) most_delivered → state_number w ≡ 0 → (front : List ℕ)
+      → Reached w (take m d) (progress (length (take m d)) (state_of w) cycles) exits w' front → Reached w d reached exits w' (front ++ drop m d)
+  front_reached m e formed front r =
+      elim (dec_lt most_delivered (length d)) [
+        | yes l ↦ front_most m (omega arith) formed front r
+        | no l ↦
+            let all : take m d ≡ d = take_all m d (omega arith) in
+            let none : drop m d ≡ [] = drop_of_length-le d {i = m} (omega arith) in
+            rw (none, append-nil) (all_reached (omega arith) front (rw all at r))
+      ]

@@ -6,6 +6,7 @@ use Prim.Native.Nat.{ℕ, zero, suc, ◌+◌, ◌-◌, ◌*◌, ◌≤◌, ◌<�
 use native.Mathlib.Numerals.{add-one}
 use native.Mathlib.Omega.{arith}
 use lib.ListN.{length, take, drop, length-append, length-drop}
+use Rattle.std.specs.Prelude.{Option}
 use Rattle.laws.specs.Turns.{turns}
 use Rattle.laws.proofs.Turns.{turns_add, turns_stay}
 use Rattle.flow.specs.Plan.{Plan}
@@ -96,7 +97,7 @@ module _ (w d : List ℕ) (checked : Checked w d) where
     after_behind = record { facts = after_facts; fits = rw after_length after_room }
 
     -- the rooms stay large enough
-    pub after_rooms : (e g e' g' : List ℕ) → Rooms w e g → length e' ≡ length e → length g' ≡ length g → Rooms w' e' g'
+    pub after_rooms : (e : List (Option ℕ)) (g : List ℕ) (e' : List (Option ℕ)) (g' : List ℕ) → Rooms w e g → length e' ≡ length e → length g' ≡ length g → Rooms w' e' g'
     unfolding state_of plan_in
     after_rooms e g e' g' rooms le lg =
         let plan : (state_of w').plan ≡ (state_of w).plan =

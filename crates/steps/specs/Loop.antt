@@ -1,6 +1,6 @@
 -- What many steps ask for and keep, turn by turn: a leap, or a step behind the exits so far. Only promises of inner functions name these;
 -- proofs/Loop ties them to how far the steps have come.
-use Rattle.std.specs.Prelude.{Option, List, ◌++◌, ◌≡◌, ℕ, ◌+◌, ◌-◌, ◌*◌, ◌≤◌, ◌<◌, length, get_or, take, drop}
+use Rattle.std.specs.Prelude.{Option, List, ◌++◌, ◌≡◌, ℕ, ◌+◌, ◌-◌, ◌*◌, ◌≤◌, length, take, drop}
 use Rattle.flow.specs.Limits.{exit_size, most_delivered, step_number}
 use Rattle.router.specs.Delivery.{words_of}
 use Rattle.state.specs.Words.{state_words}
@@ -43,7 +43,3 @@ pub data Turned (w delivery : List ℕ) (exits left : ℕ) (t : Turn) (w' delive
   stepped : t.cycles ≡ 1 → w' ≡ over (state_words (step_state (state_of w))) w → t.exits ≡ exits + length (deliveries (state_of w))
       → delivery' ≡ take (exit_size * exits) delivery ++ over (words_of (deliveries (state_of w))) (drop (exit_size * exits) delivery)
       → Turned w delivery exits left t w' delivery'
-
--- every word is 0
-abbrev pub AllZero : List ℕ → Type 0
-AllZero l = (i : ℕ) → i < length l → get_or l i 0 ≡ 0

@@ -18,26 +18,25 @@ use refusal::{Cause, Refusal};
 use state::StateWords;
 
 // The most words of delivery memory that the steps use: an answer counts their exits.
-fn most_delivered() -> usize
-    ensures { result ≡ most_delivered }
-{
-    21474836475
-}
+const MOST_DELIVERED: usize = cycle::EXIT_SIZE * 4294967295;
 
 // What a step that delivers behind so many exits is refused for.
 fn check_next(state: &[u32], delivery: &[u32], exits: u32) -> Result<(), Cause>
     requires { Behind state.now delivery.now exits }
     ensures { number_in result ≡ number_behind state.now delivery.now exits }
 {
-    step::check_room(&StateWords::of(state), delivery.len() - cycle::EXIT_SIZE * (exits as usize))
+    step::check_room(
+        &StateWords::of(state),
+        delivery.len() - cycle::EXIT_SIZE * (exits as usize),
+    )
 }
 
 // A step that delivers behind so many exits, with room for the entrants and for the next registers: how many more.
 fn step_behind(
     state: &mut [u32],
+    delivery: &mut [u32],
     entrants: &mut [Option<u32>],
     registers: &mut [u32],
-    delivery: &mut [u32],
     exits: u32,
 ) -> u32
     requires free_behind { FreeBehind state.old delivery.old exits }
@@ -52,14 +51,14 @@ fn step_behind(
     registers.fill(0);
     step::advance_in(
         state,
+        &mut delivery[cycle::EXIT_SIZE * (exits as usize)..],
         entrants,
         registers,
-        &mut delivery[cycle::EXIT_SIZE * (exits as usize)..],
     )
 }
 
 // The exits so far, and how many cycles a turn took.
-#[derive(Clone, Copy)]
+#[derive(Clone, Copy, Debug, PartialEq, Eq)]
 pub struct Turn {
     pub exits: u32,
     pub cycles: u32,
@@ -68,9 +67,9 @@ pub struct Turn {
 // A leap of at most so many cycles, where one may come, or else a step.
 fn take_turn(
     state: &mut [u32],
+    delivery: &mut [u32],
     entrants: &mut [Option<u32>],
     registers: &mut [u32],
-    delivery: &mut [u32],
     exits: u32,
     left: u32,
     may_leap: bool,
@@ -84,7 +83,7 @@ fn take_turn(
     if 0 < k {
         return Turn { exits, cycles: k };
     }
-    let more = step_behind(state, entrants, registers, delivery, exits);
+    let more = step_behind(state, delivery, entrants, registers, exits);
     Turn {
         exits: exits + more,
         cycles: 1,
@@ -93,11 +92,11 @@ fn take_turn(
 
 // So many steps, one after the other, each delivering behind the last: the count of exits. After a step without an exit something is in
 // flight, and after a leap a waiting flow has a token, or the steps are over; so a leap is tried at the start and after exits.
-pub fn advance_many(
+fn advance_many(
     state: &mut [u32],
+    delivery: &mut [u32],
     entrants: &mut [Option<u32>],
     registers: &mut [u32],
-    delivery: &mut [u32],
     cycles: u32,
 ) -> u32
     requires checked { Checked state.old delivery.old }
@@ -108,38 +107,13 @@ pub fn advance_many(
     let mut exits = 0u32;
     let mut left = cycles;
     let mut may_leap = true;
-    while 0 < left {
-        if check_next(state, delivery, exits).is_err() {
-            break;
-        }
-        let t = take_turn(state, entrants, registers, delivery, exits, left, may_leap);
+    while 0 < left && check_next(state, delivery, exits).is_ok() {
+        let t = take_turn(state, delivery, entrants, registers, exits, left, may_leap);
         may_leap = exits < t.exits;
         exits = t.exits;
         left -= t.cycles;
     }
     exits
-}
-
-// So many steps. A small torus gets little room.
-fn advance_sized(state: &mut [u32], delivery: &mut [u32], cycles: u32) -> u32
-    requires { Checked state.old delivery.old }
-    ensures { Reached state.old delivery.old
-        (progress (length delivery.old) (state_of state.old) cycles) result state.new delivery.new }
-{
-    let routers = state[state::SX] * state[state::SY];
-    if routers <= 16 {
-        let mut entrants = [None; 16];
-        let mut registers = [0u32; state::ROUTER_SIZE * 16];
-        return advance_many(state, &mut entrants, &mut registers, delivery, cycles);
-    }
-    if routers <= 64 {
-        let mut entrants = [None; 64];
-        let mut registers = [0u32; state::ROUTER_SIZE * 64];
-        return advance_many(state, &mut entrants, &mut registers, delivery, cycles);
-    }
-    let mut entrants = [None; state::MOST_ROUTERS];
-    let mut registers = [0u32; state::ROUTER_SIZE * state::MOST_ROUTERS];
-    advance_many(state, &mut entrants, &mut registers, delivery, cycles)
 }
 
 // So many steps on the front of the delivery memory.
@@ -148,11 +122,14 @@ fn advance_front(state: &mut [u32], delivery: &mut [u32], cycles: u32) -> u32
     ensures { Reached state.old delivery.old
         (progress (used_room (length delivery.old)) (state_of state.old) cycles) result state.new delivery.new }
 {
-    let most = most_delivered();
-    if most < delivery.len() {
-        return advance_sized(state, &mut delivery[..most], cycles);
-    }
-    advance_sized(state, delivery, cycles)
+    let used = delivery.len().min(MOST_DELIVERED);
+    step::with_room(
+        state,
+        &mut delivery[..used],
+        |state, delivery, entrants, registers| {
+            advance_many(state, delivery, entrants, registers, cycles)
+        },
+    )
 }
 
 // So many cycles of the torus, or as many as memory and clock allow: the count of all exits, or the refusal of a step at the start.

@@ -32,39 +32,29 @@ told_all w l k room h =
     ∙ ap (λ n. over (tabulate n (word w)) l) (sym (counted w))
 
 pub loop-f-init : goal.loop-f-init
-loop-f-init c =
-    (omega arith, (refl, (c.requires.entrants, told_none _ _)))
+loop-f-init c = (refl, (c.requires.entrants, told_none _ _))
 
 -- the turn that a call begins, and the one that a word ends
 pub why-reason-requires : goal.why-reason-requires
-why-reason-requires c =
-    record {
-      state_flow = record { facts = c.requires.state_facts; below = omega arith };
-      entrants = c.loop-f.invariant.1.1.0;
-    }
+why-reason-requires c = record { f_below = omega arith; entrants = c.loop-f.invariant.1.0 }
 
 pub bounds-reasons-f : goal.bounds-reasons-f
-bounds-reasons-f c =
-    let below = c.loop-f-test.true in
-    rw (wrote_length c.loop-f.invariant.1.1.1) (omega arith)
+bounds-reasons-f c = rw (wrote_length c.loop-f.invariant.1.1) (omega arith)
 
 pub loop-f-preserved : goal.loop-f-preserved
 loop-f-preserved c =
     let old = c.loop-f.invariant in (
-      omega arith,
-      (
-        c.why-reason.auto.entrants ∙ old.1.0,
-        (c.why-reason.ensures.entrants_2, told_more _ _ _ _ _ (c.number.ensures ∙ ap number_of c.why-reason.ensures.value) old.1.1.1),
-      ),
+      c.why-reason.auto.entrants ∙ old.0,
+      (c.why-reason.ensures.entrants_2, told_more _ _ _ _ _ (c.number.ensures ∙ ap number_of c.why-reason.ensures.value) old.1.1),
     )
 
 pub returns : goal.returns
 returns c =
     let all : c.loop-f.f ≡ count_in c.args.state.now = omega arith in
-    told_all _ _ _ c.requires.state_in_bounds (rw all at c.loop-f.invariant.1.1.1)
+    told_all _ _ _ c.requires.state_in_bounds (rw all at c.loop-f.invariant.1.1)
 
 pub shape_of-entrants : goal.shape_of-entrants
-shape_of-entrants c = c.loop-f.invariant.1.0
+shape_of-entrants c = c.loop-f.invariant.0
 
 pub shape_of-reasons : goal.shape_of-reasons
-shape_of-reasons c = wrote_length c.loop-f.invariant.1.1.1
+shape_of-reasons c = wrote_length c.loop-f.invariant.1.1

@@ -1,6 +1,6 @@
 use mathlib.Core.List.{List}
 use mathlib.Core.Path.{◌≡◌}
-use Prim.Native.Nat.{ℕ, ◌≤◌}
+use Prim.Native.Nat.{ℕ}
 use lib.ListN.{length}
 use Rattle.laws.specs.Bounded.{tabulate}
 use Rattle.laws.specs.Written.{Wrote}
@@ -20,4 +20,4 @@ Told w before f after = Wrote before 0 (tabulate f (word w)) f after
 
 abbrev pub invariant-loop-f : goal.invariant-loop-f
 invariant-loop-f l =
-    (l.f ≤ l.flows) × ((length l.entrants ≡ length l.initial.entrants) × (Entrants (state_of l.state) l.f l.entrants × Told l.state l.initial.reasons l.f l.reasons))
+    (length l.entrants ≡ length l.initial.entrants) × (Entrants (state_of l.state) l.f l.entrants × Told l.state l.initial.reasons l.f l.reasons)

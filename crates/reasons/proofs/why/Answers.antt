@@ -14,26 +14,22 @@ use Rattle.reasons.proofs.why.Goals.{After-entered, After-port}
 
 pub returns-then-t-lt1 : goal.returns-then-t-lt1
 returns-then-t-lt1 c =
-    let both = turn_nothing _ c.requires.state_flow.facts _ c.requires.state_flow.below _ c.tally_at-t.ensures _ c.requires.entrants c.if-t-lt1.true in
+    let both = turn_nothing _ c.tally-t.ensures.facts _ c.requires.f_below _ c.tally-t.ensures.value _ c.requires.entrants c.if-t-lt1.true in
     record { value = both.0; entrants_2 = both.1 }
 
-pub returns-then-bucket-lt1 : goal.returns-then-bucket-lt1
-returns-then-bucket-lt1 c =
-    let both = turn_no_token _ c.requires.state_flow.facts _ c.requires.state_flow.below _ c.tally_at-t.ensures _ c.requires.entrants c.if-t-lt1.false c.if-bucket-lt1.true in
+pub returns-then-t-lt1-2 : goal.returns-then-t-lt1-2
+returns-then-t-lt1-2 c =
+    let both = turn_no_token _ c.tally-t.ensures.facts _ c.requires.f_below _ c.tally-t.ensures.value _ c.requires.entrants c.if-t-lt1.false c.if-t-lt1-2.true in
     record { value = both.0; entrants_2 = both.1 }
 
 pub port_open-requires : goal.port_open-requires
-port_open-requires c =
-    record {
-      state_facts = c.requires.state_flow.facts;
-      flow_ok = rw c.flow_at-flow.ensures (flow_ok _ c.requires.state_flow.facts _ c.requires.state_flow.below);
-    }
+port_open-requires c = rw c.flow-flow.ensures.value (flow_ok _ c.tally-t.ensures.facts _ c.requires.f_below)
 
 pub port-requires : goal.port-requires
 port-requires c =
-    let ok = flow_ok _ c.requires.state_flow.facts _ c.requires.state_flow.below in
-    let sizes = c.requires.state_flow.facts.header in
-    rw c.flow_at-flow.ensures (omega arith)
+    let ok = flow_ok _ c.tally-t.ensures.facts _ c.requires.f_below in
+    let sizes = c.tally-t.ensures.facts.header in
+    rw (c.flow-flow.ensures.value, c.sx.ensures.value) (record { xs_lt_sx = omega arith; sx_le_most_size = omega arith })
 
 -- a closed port, by the case of the match
 abbrev Told : goal.After-port → Reason → Type 0
@@ -41,8 +37,8 @@ Told c r = let a = c.args in Turn a.state.now a.f r a.entrants.now
 
 closed : (c : goal.After-port) → Told c (closed_by c.port.result)
 closed c =
-    turn_closed _ c.requires.state_flow.facts _ c.requires.state_flow.below _ c.tally_at-t.ensures c.if-t-lt1.false c.if-bucket-lt1.false _ c.flow_at-flow.ensures
-    _ c.requires.entrants (sym c.port_open.ensures ∙ c.if-not-port_open.true) _ c.port.ensures
+    turn_closed _ c.tally-t.ensures.facts _ c.requires.f_below _ c.tally-t.ensures.value c.if-t-lt1.false c.if-t-lt1-2.false _ c.flow-flow.ensures.value
+    _ c.requires.entrants (sym c.port_open.ensures ∙ c.if-not-port_open.true) _ (rw c.sx.ensures.value at c.port.ensures)
 
 pub returns-in-East : goal.returns-in-East
 returns-in-East c =
@@ -56,25 +52,22 @@ returns-in-South c =
     let both = subst (Told port) (ap closed_by c.in-South.is) (closed port) in
     record { value = both.0; entrants_2 = both.1 }
 
-pub enter-requires : goal.enter-requires
-enter-requires c = record { state_flow = c.requires.state_flow; entrants = c.requires.entrants }
-
 pub entered-requires : goal.entered-requires
 entered-requires c =
-    let ok = flow_ok _ c.requires.state_flow.facts _ c.requires.state_flow.below in
-    let sizes = c.requires.state_flow.facts.header in
-    let few = c.requires.state_flow.below in
-    rw c.flow_at-flow.ensures
+    let ok = flow_ok _ c.tally-t.ensures.facts _ c.requires.f_below in
+    let sizes = c.tally-t.ensures.facts.header in
+    let few = c.requires.f_below in
+    rw (c.flow-flow.ensures.value, c.sx-2.ensures.value)
     (record {
       sx_le_most_size = omega arith;
-      ys_in_bounds = (entrant_fits _ c.requires.state_flow.facts _ _ c.enter.ensures _ _ ok.xs_on ok.ys_on, omega arith);
+      ys_in_bounds = (entrant_fits _ c.tally-t.ensures.facts _ _ c.enter.ensures _ _ ok.xs_on ok.ys_on, omega arith);
     })
 
 by_word : (c : goal.After-entered) → let a = c.args in let l = c.enter.new.entrants in
     (c.entered.result ≡ true → Turn a.state.now a.f Entered l) × (c.entered.result ≡ false → Turn a.state.now a.f LowerEntered l)
 by_word c =
-    turn_word _ c.requires.state_flow.facts _ c.requires.state_flow.below _ c.tally_at-t.ensures c.if-t-lt1.false c.if-bucket-lt1.false _ c.flow_at-flow.ensures
-    (sym c.port_open.ensures ∙ c.if-not-port_open.false) _ c.enter.ensures _ c.entered.ensures
+    turn_word _ c.tally-t.ensures.facts _ c.requires.f_below _ c.tally-t.ensures.value c.if-t-lt1.false c.if-t-lt1-2.false _ c.flow-flow.ensures.value
+    (sym c.port_open.ensures ∙ c.if-not-port_open.false) _ c.enter.ensures _ (rw c.sx-2.ensures.value at c.entered.ensures)
 
 pub returns-then-entered : goal.returns-then-entered
 returns-then-entered c =

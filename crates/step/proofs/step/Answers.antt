@@ -1,14 +1,18 @@
 -- `step`: its refusal, or one cycle.
-use mathlib.Core.Path.{sym}
+use mathlib.Core.Path.{refl, sym}
+use native.Mathlib.Omega.{arith}
+use Rattle.state.proofs.Causes.{cause_some, told_cause}
 use Rattle.step.proofs.step.Goals as goal
 
-pub returns-then-number-ne0 : goal.returns-then-number-ne0
-returns-then-number-ne0 c = sym (c.refusal-number.ensures.refuses c.if-number-ne0.true)
+pub returns-in_err-check_step : goal.returns-in_err-check_step
+returns-in_err-check_step c =
+    let some = cause_some c.in_err-check_step.field-0.0 in
+    rw (told_cause (λ v. v) _ _ c.from_residual.ensures.1) (sym (c.in_err-check_step.ensures.refuses (λ none. omega arith)))
 
-pub advance-exits-requires : goal.advance-exits-requires
-advance-exits-requires c =
-    c.refusal-number.ensures.passes c.if-number-ne0.false
+pub advance-requires : goal.advance-requires
+advance-requires c = c.in_ok-check_step.ensures.passes refl
 
 pub returns : goal.returns
 returns c =
-    rw (c.advance-exits.ensures.state_after, c.advance-exits.ensures.value, c.advance-exits.ensures.delivery_after) (sym (c.refusal-number.ensures.runs c.if-number-ne0.false))
+    let after = c.advance.ensures in
+    rw (after.state_after, after.value, after.delivery_after) (sym (c.in_ok-check_step.ensures.runs refl))

@@ -1,20 +1,21 @@
--- `refusal`: the state's number or the step's; what 0 leaves.
+-- `check_step`: the state's cause or the step's; what none leaves.
 use mathlib.Core.List.{List}
 use mathlib.Core.Logic.{◌≢◌}
 use mathlib.Core.Path.{◌≡◌, refl, sym, ◌∙◌}
 use Prim.Native.Nat.{ℕ, ◌+◌, ◌<◌}
 use native.Mathlib.Omega.{arith}
 use lib.ListN.{length}
+use Rattle.std.proofs.lemmas.Result.{err_from_is_err_and}
 use Rattle.flow.specs.Limits.{last_clock, step_number}
 use Rattle.flow.proofs.Limits.{step_passes}
 use Rattle.state.specs.Read.{clock_in, plan_in, state_of}
 use Rattle.state.specs.Forms.{state_number}
+use Rattle.state.proofs.Causes.{cause_some}
 use Rattle.state.proofs.Forms.{state_facts}
 use Rattle.state.proofs.Over.{unless_passes, unless_refuses}
 use Rattle.cycle.specs.Step.{step_on}
 use Rattle.step.specs.Next.{Stepping, Judged}
-use Rattle.step.proofs.refusal.Goals as goal
-use Rattle.step.proofs.refusal.Goals.{Else-number-ne0}
+use Rattle.step.proofs.check_step.Goals as goal
 
 -- what 10 and 11 leave: room for every router's exit, and a clock that can go on
 room : (w delivery : List ℕ) → step_number (state_of w).plan (length delivery) (state_of w).clock ≡ 0 → clock_in w < last_clock + 1
@@ -46,16 +47,12 @@ by_step w delivery n e fits formed =
       runs = λ zero'. rw (formed, ← e) (sym (unless_passes 0 _ _ refl) ∙ sym (unless_passes n _ _ zero'));
     }
 
--- the words form a state
-formed : (c : goal.Else-number-ne0) → state_number c.args.state.now ≡ 0
-formed c = sym c.state_number-number.ensures ∙ c.if-number-ne0.false
-
-pub returns-then-number-ne0 : goal.returns-then-number-ne0
-returns-then-number-ne0 c = by_state _ _ _ c.state_number-number.ensures c.if-number-ne0.true
-
-pub step_number-requires : goal.step_number-requires
-step_number-requires c = state_facts _ (formed c)
+pub returns-in_err-read_state : goal.returns-in_err-read_state
+returns-in_err-read_state c =
+    let p = err_from_is_err_and c.from_residual.result c.from_residual.ensures.1 in
+    let some = cause_some c.in_err-read_state.field-0.0 in
+    rw (p.1, p.2) (by_state _ _ _ c.in_err-read_state.ensures.number (λ none. omega arith))
 
 pub returns : goal.returns
 returns c =
-    by_step _ _ _ c.step_number.ensures (c.type_inv.state 3).fits (formed (goal.at.returns c).Else-number-ne0)
+    by_step _ _ _ (rw c.in_ok-read_state.ensures.words at c.check_room.ensures) (c.type_inv.state 3).fits (sym c.in_ok-read_state.ensures.number)
