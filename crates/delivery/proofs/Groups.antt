@@ -1,15 +1,20 @@
 -- Laws of groups: what a delivery has that isn't strange to the plan, and the groups of deliveries' words. Rests on specs/Groups and the
 -- laws of flights.
-use mathlib.Core.Bool.{true, false, not}
-use mathlib.Core.List.{List, [], ◌∷◌}
+use mathlib.Core.Bool.{Bool, true, false, not}
+use mathlib.Core.List.{List, [], ◌∷◌, map}
 use mathlib.Core.Path.{◌≡◌, refl, sym, ◌∙◌}
 use Prim.Native.Nat.{ℕ, zero, suc, ◌+◌, ◌-◌, ◌*◌, ◌/◌, ◌≤◌, ◌<◌}
 use native.Mathlib.Decide.{ℕ_discrete}
 use native.Mathlib.Omega.{arith}
 use borrow.Author.Tests.{le-ltb, lt-leb, le-leb, eq-eqb, ne_eqb, ltb-false, leb-false, leb-true, eqb-true, not-false}
 use lib.Dec.{eqb}
-use lib.ListN.{length, get_or}
-use lib.Seq.{get_or-append-add}
+use lib.ListN.{length, get_or, take, drop}
+use lib.Seq.{get_or-append-add, get_or-take, get_or-drop}
+use Rattle.std.specs.Prelude.{Option, Some, None}
+use Rattle.std.specs.Option.{SomeIff, option_eq}
+use Rattle.std.specs.List.{list_any}
+use Rattle.std.specs.Simd.{first_chunks}
+use Rattle.laws.specs.Count.{any}
 use Rattle.laws.proofs.Bounded.{is_tabulate}
 use Rattle.laws.proofs.Cases.{and_true, or_false}
 use Rattle.flow.specs.declared.Flow.{Flow}
@@ -22,6 +27,7 @@ use Rattle.router.proofs.Delivery.{words_length}
 use Rattle.state.specs.Read.{sx_in, sy_in, count_in, plan_in, state_of}
 use Rattle.state.proofs.View.{view_count}
 use Rattle.delivery.specs.Groups.{group_at, groups_of, impossible, strange}
+use Rattle.delivery.specs.Inner.{group_in}
 
 -- two more on both sides
 eqb_two : (m n : ℕ) → eqb (m + 2) (n + 2) ≡ eqb m n
@@ -32,11 +38,18 @@ eqb_two m n =
     ]
 
 -- with few deflections and an exit after the entry, what is left is the time from entry to exit
-pub by_travel : (sx sy : ℕ) (f : Flow) (entry exit D : ℕ) → D ≤ ΔY sy f → entry ≤ exit
+by_travel : (sx sy : ℕ) (f : Flow) (entry exit D : ℕ) → D ≤ ΔY sy f → entry ≤ exit
     → not (eqb (exit - entry) (travel sx sy f D)) ≡ impossible sx sy f entry exit D
 unfolding impossible
 by_travel sx sy f entry exit D few ordered =
     rw (le-ltb (ΔY sy f) D few, le-leb entry exit ordered, eqb_two (exit - entry) (travel sx sy f D))
+
+-- likewise by the time, which there is where the exit isn't before the entry
+pub by_time : (sx sy : ℕ) (f : Flow) (entry exit D : ℕ) (time : Option ℕ) → D ≤ ΔY sy f → SomeIff time (entry ≤ exit) (exit - entry)
+    → not (option_eq eqb time (Some (travel sx sy f D))) ≡ impossible sx sy f entry exit D
+unfolding impossible
+by_time sx sy f entry exit D None few h = rw (le-ltb (ΔY sy f) D few, lt-leb entry exit (omega (arith, h)))
+by_time sx sy f entry exit D (Some t) few h = rw h.1 (by_travel sx sy f entry exit D few h.0)
 
 -- a delivery that the plan can have: a flow of the plan, D at most ΔY, and exit after entry by ΔX + ΔY + D×Sx
 pub record Genuine (p : Plan) (d : Delivery) : Type 0 where
@@ -107,3 +120,41 @@ groups_words ds =
     group [] i h = absurd (omega arith)
     group (d ∷ ds) zero h = refl
     group (d ∷ ds) (suc i) h = group ds i (omega arith) ∙ sym (next_group d ds i)
+
+-- and words cut into fives are their groups
+pub groups_chunks : (w : List ℕ) → map group_in (first_chunks exit_size (length w / exit_size) w) ≡ groups_of w
+unfolding groups_of
+groups_chunks w =
+    let n = length w / exit_size in
+    is_tabulate (cut n w) n (group_at w) none (cut_length n w) (cut_at n w)
+  where
+    none : Delivery
+    none = delivery_with 0 0 0 0 0
+
+    cut : ℕ → List ℕ → List Delivery
+    cut n w = map group_in (first_chunks exit_size n w)
+
+    cut_length : (n : ℕ) (w : List ℕ) → length (cut n w) ≡ n
+    cut_length zero w = refl
+    cut_length (suc n) w = omega (arith, cut_length n (drop exit_size w))
+
+    inside : (w : List ℕ) (k : ℕ) → k < exit_size → get_or (take exit_size w) k 0 ≡ get_or w k 0
+    inside w k h = get_or-take exit_size w k 0 h
+
+    behind : (w : List ℕ) (j k : ℕ) → j ≡ exit_size + k → get_or (drop exit_size w) k 0 ≡ get_or w j 0
+    behind w j k e = rw e (get_or-drop exit_size w k 0)
+
+    cut_at : (n : ℕ) (w : List ℕ) (i : ℕ) → i < n → get_or (cut n w) i none ≡ group_at w i
+    cut_at zero w i h = absurd (omega arith)
+    cut_at (suc n) w zero h =
+        let at : (k : ℕ) → k < exit_size → get_or (take exit_size w) k 0 ≡ get_or w k 0 = inside w in
+        rw (at 0 (omega arith), at 1 (omega arith), at 2 (omega arith), at 3 (omega arith), at 4 (omega arith))
+    cut_at (suc n) w (suc i) h =
+        let at : (k : ℕ) → get_or (drop exit_size w) (exit_size * i + k) 0 ≡ get_or w (exit_size * suc i + k) 0 =
+        λ k. behind w (exit_size * suc i + k) (exit_size * i + k) (omega arith) in
+        cut_at n (drop exit_size w) i (omega arith) ∙ rw (behind w (exit_size * suc i) (exit_size * i) (omega arith), at 1, at 2, at 3, at 4)
+
+-- a test of the groups is one of the words
+pub any_groups : (t : Delivery → Bool) (cuts : List (List ℕ)) → list_any (λ g. t (group_in g)) cuts ≡ any t (map group_in cuts)
+any_groups t [] = refl
+any_groups t (g ∷ cuts) = rw (any_groups t cuts)

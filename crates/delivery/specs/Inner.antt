@@ -1,19 +1,13 @@
--- What inner functions ask of groups, and a delivery as they read it. No call's promise names these.
-use Rattle.std.specs.Prelude.{List, ℕ, ◌+◌, ◌*◌, ◌≤◌, length}
-use Rattle.flow.specs.Limits.{exit_size}
-use Rattle.router.specs.Delivery.{Delivery}
-use Rattle.state.specs.Facts.{StateFacts}
-use Rattle.delivery.specs.declared.Trip.{Trip}
+-- A delivery as code has it, and the one that a group of words is. No call's promise names these.
+use Rattle.std.specs.Prelude.{List, ℕ}
+use Rattle.router.specs.Delivery.{Delivery, delivery_with}
+use Rattle.delivery.specs.Groups.{group_at}
+use Rattle.delivery.specs.declared.Delivery.{Delivery as Told}
 
--- the deliveries have a group i
-abbrev pub HasGroup : List ℕ → ℕ → Type 0
-HasGroup w i = exit_size * i + exit_size ≤ length w
+-- what a delivery of the code tells
+abbrev pub as_told : Told → Delivery
+as_told d = delivery_with d.flow d.serial d.entry d.exit d.deflections
 
--- with a state
-pub record StateGroup (w deliveries : List ℕ) (i : ℕ) : Type 0 where
-  pub facts : StateFacts w
-  pub has : HasGroup deliveries i
-
--- a delivery's entry, exit and D
-abbrev pub trip_of : Delivery → Trip
-trip_of d = record { entry = d.entry; exit = d.exit; deflections = d.D }
+-- the delivery that five words are
+abbrev pub group_in : List ℕ → Delivery
+group_in group = group_at group 0

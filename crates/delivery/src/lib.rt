@@ -1,75 +1,72 @@
 // A step's deliveries as five-word groups, and which of them are strange to a plan. Rests on cycle.
 #![tactic(auto)]
 
-ghost use Rattle.std.specs.Prelude.{◌≡◌, ◌≤◌};
+ghost use Rattle.std.specs.Prelude.{◌≡◌, ◌≤◌, map};
 ghost use Rattle.laws.specs.Count.{any};
 ghost use Rattle.flow.specs.Plan.{most_size};
 ghost use Rattle.flow.specs.Ranges.{FlowOk};
 ghost use Rattle.state.specs.Read.{plan_in};
-ghost use Rattle.delivery.specs.Groups.{group_at, groups_of, impossible, strange};
-ghost use Rattle.delivery.specs.Inner.{HasGroup, trip_of};
+ghost use Rattle.delivery.specs.Groups.{groups_of, impossible, strange};
+ghost use Rattle.delivery.specs.Inner.{as_told, group_in};
 
 use flow::Flow;
 use state::StateWords;
 
-// The entry cycle, exit cycle and deflections of a delivery.
-#[derive(Clone, Copy)]
-pub struct Trip {
+// What an exit writes: a packet's flow, its serial, the cycles of its entry and its exit, and its deflections.
+#[derive(Clone, Copy, Debug, PartialEq, Eq)]
+pub struct Delivery {
+    pub flow: u32,
+    pub serial: u32,
     pub entry: u32,
     pub exit: u32,
     pub deflections: u32,
 }
 
-// Those of group i.
-pub fn trip_at(deliveries: &[u32], i: usize) -> Trip
-    requires { HasGroup deliveries.now i }
-    ensures { result ≡ trip_of (group_at deliveries.now i) }
-{
-    let at = cycle::EXIT_SIZE * i;
-    Trip {
-        entry: deliveries[at + 2],
-        exit: deliveries[at + 3],
-        deflections: deliveries[at + 4],
+impl From<[u32; cycle::EXIT_SIZE]> for Delivery {
+    ghost from_gives = { λ group delivery. as_told delivery ≡ group_in group };
+
+    fn from(group: [u32; cycle::EXIT_SIZE]) -> Delivery {
+        let [flow, serial, entry, exit, deflections] = group;
+        Delivery {
+            flow,
+            serial,
+            entry,
+            exit,
+            deflections,
+        }
     }
 }
 
-// No packet of flow f has this entry, exit and D.
-fn impossible(sx: u32, sy: u32, f: Flow, entry: u32, exit: u32, d: u32) -> bool
+// The groups of five words that deliveries are; a broken last group isn't read.
+#[tactic(auto, using(crate::proofs::Groups::groups_chunks))]
+pub fn whole_groups(deliveries: &[u32]) -> &[[u32; cycle::EXIT_SIZE]]
+    ensures { map group_in result.now ≡ groups_of deliveries.now }
+{
+    deliveries.as_chunks().0
+}
+
+// No packet of flow f is delivered so.
+fn impossible(sx: u32, sy: u32, f: Flow, d: Delivery) -> bool
     requires { (FlowOk sx sy f) × ((sx ≤ most_size) × (sy ≤ most_size)) }
-    ensures { result ≡ impossible sx sy f entry exit d }
+    ensures { result ≡ impossible sx sy f d.entry d.exit d.deflections }
 {
     let dy = f.offset_y(sy);
-    if dy < d {
-        return true;
-    }
-    if exit < entry {
-        return true;
-    }
-    exit - entry != f.offset_x(sx) + dy + d * sx
+    dy < d.deflections
+        || d.exit.checked_sub(d.entry) != Some(f.offset_x(sx) + dy + d.deflections * sx)
 }
 
-// Group i is of no flow in the plan, or is impossible for its flow.
-fn strange(state: &StateWords, deliveries: &[u32], i: usize) -> bool
-    requires { HasGroup deliveries.now i }
-    ensures { result ≡ strange (plan_in state.now) (group_at deliveries.now i) }
+// A delivery is of no flow in the plan, or is impossible for its flow.
+fn strange(state: &StateWords, d: Delivery) -> bool
+    ensures { result ≡ strange (plan_in state.now) (as_told d) }
 {
-    let flow = deliveries[cycle::EXIT_SIZE * i];
-    if state.flows() <= flow {
-        return true;
-    }
-    let t = trip_at(deliveries, i);
-    impossible(state.sx(), state.sy(), state.flow(flow), t.entry, t.exit, t.deflections)
+    state.flows() <= d.flow || impossible(state.sx(), state.sy(), state.flow(d.flow), d)
 }
 
-// Some group is strange to the plan.
+// Some delivery is strange to the plan.
 pub fn any_strange(state: &StateWords, deliveries: &[u32]) -> bool
     ensures { result ≡ any (strange (plan_in state.now)) (groups_of deliveries.now) }
 {
-    let n = deliveries.len() / cycle::EXIT_SIZE;
-    for i in 0..n {
-        if strange(state, deliveries, i) {
-            return true;
-        }
-    }
-    false
+    whole_groups(deliveries)
+        .iter()
+        .any(|group| strange(state, Delivery::from(*group)))
 }

@@ -1,38 +1,32 @@
--- What an accepted call has: its number is 0, every group can be kept, and the records are those with all groups. Rests on Fed and
--- Groups.
-use mathlib.Core.Bool.{false, not, ◌&&◌}
-use mathlib.Core.List.{List}
-use mathlib.Core.Path.{◌≡◌, refl, sym, ap, ◌∙◌}
-use Prim.Native.Nat.{ℕ, zero, suc, ◌/◌, ◌≤◌, ◌<◌}
+-- What an accepted call has: its number is 0, every group can be kept, and the records are those with all groups. Rests on Groups.
+use mathlib.Core.Bool.{Bool, false, not, ◌&&◌}
+use mathlib.Core.List.{List, [], ◌∷◌, map}
+use mathlib.Core.Path.{◌≡◌, sym, ap, ◌∙◌}
+use Prim.Native.Nat.{ℕ, zero, suc, ◌≤◌, ◌<◌}
 use native.Mathlib.Omega.{arith}
 use borrow.Author.Tests.{leb-true, ltb-false, not-false, le-ltb, le-leb}
 use lib.Dec.{ltb, leb}
-use lib.ListN.{length}
+use lib.ListN.{length, get_or}
 use Rattle.laws.specs.Count.{any}
-use Rattle.laws.specs.Turns.{turns}
-use Rattle.laws.proofs.Cases.{passed, and_true}
-use Rattle.laws.proofs.Count.{none_below}
+use Rattle.laws.proofs.Cases.{passed, and_true, or_false}
 use Rattle.flow.specs.Plan.{Plan}
-use Rattle.flow.specs.Limits.{exit_size}
 use Rattle.flight.proofs.Flight.{flight_most}
 use Rattle.refusal.specs.Answer.{Answer, Done}
-use Rattle.plan.specs.Refusals.{answer_by}
 use Rattle.router.specs.Delivery.{Delivery}
 use Rattle.state.specs.Read.{sx_in, sy_in, count_in, plan_in, state_of}
 use Rattle.state.specs.Facts.{StateFacts}
 use Rattle.state.specs.Forms.{state_number}
 use Rattle.state.specs.Outcome.{Outcome, outcome, unless}
-use Rattle.state.proofs.Forms.{state_facts}
 use Rattle.state.proofs.Over.{unless_done}
 use Rattle.state.proofs.View.{view_count}
 use Rattle.cycle.proofs.Facts.{flow_ok}
 use Rattle.recent.specs.declared.Recent.{Recent}
 use Rattle.recent.specs.Recent.{most_kept}
-use Rattle.delivery.specs.Groups.{group_at, groups_of, strange}
-use Rattle.feed.specs.Feed.{fed_all, feed_number, feed_on}
-use Rattle.feed.specs.Inner.{Keepable, Feedable, fed_first, first_number, call_number, groups_fed}
+use Rattle.delivery.specs.Groups.{groups_of, strange}
+use Rattle.delivery.specs.Inner.{group_in}
+use Rattle.feed.specs.Feed.{fed_all, feed_number, planned_on, feed_on}
+use Rattle.feed.specs.Inner.{Keepable, Feedable}
 use Rattle.delivery.proofs.Groups.{Genuine, known_genuine}
-use Rattle.feed.proofs.Fed.{fed_groups}
 
 -- what a number of 0 leaves
 pub record Accepted (p : Plan) (ds : List Delivery) (count last : ℕ) : Type 0 where
@@ -41,7 +35,7 @@ pub record Accepted (p : Plan) (ds : List Delivery) (count last : ℕ) : Type 0 
   pub few : last ≤ most_kept
   pub known : any (strange p) ds ≡ false
 
-accepted : (p : Plan) (ds : List Delivery) (count last : ℕ) → feed_number p ds count last ≡ 0 → Accepted p ds count last
+pub accepted : (p : Plan) (ds : List Delivery) (count last : ℕ) → feed_number p ds count last ≡ 0 → Accepted p ds count last
 unfolding feed_number
 accepted p ds count last e =
     let first = passed (ltb count (length p.flows)) 15 _ e in
@@ -58,58 +52,30 @@ accepted_number : (p : Plan) (ds : List Delivery) (count last : ℕ) → Accepte
 unfolding feed_number
 accepted_number p ds count last a = rw (le-ltb _ _ a.enough, le-leb _ _ a.some, le-leb _ _ a.few, a.known)
 
-both_pass : (n m : ℕ) → first_number n m ≡ 0 → (n ≡ 0) × (m ≡ 0)
-both_pass zero m e = (refl, e)
-both_pass (suc n) m e = absurd (omega arith)
+-- a test that no group passes
+none_group : (t : Delivery → Bool) (groups : List (List ℕ)) (i : ℕ) → any t (map group_in groups) ≡ false → i < length groups
+    → t (group_in (get_or groups i [])) ≡ false
+none_group t [] i e h = absurd (omega arith)
+none_group t (g ∷ groups) zero e h = (or_false _ _ e).0
+none_group t (g ∷ groups) (suc i) e h = none_group t groups i (or_false _ _ e).1 (omega arith)
 
-module _ (words deliveries : List ℕ) (last : ℕ) where
-  module _ (count : ℕ) (accepts : call_number words deliveries count last ≡ 0) where
-    formed : StateFacts words
-    formed = state_facts words (both_pass (state_number words) _ accepts).0
+-- the groups of an accepted call can be kept
+module _ (words : List ℕ) (formed : StateFacts words) (groups : List (List ℕ)) (count last : ℕ)
+    (goes : Accepted (plan_in words) (map group_in groups) count last) where
+  keepable : (i : ℕ) → i < length groups → let d = group_in (get_or groups i []) in Keepable d last × (d.flow < count)
+  unfolding plan_in state_of
+  keepable i h =
+      let d : Delivery = group_in (get_or groups i []) in
+      let real : Genuine (plan_in words) d = known_genuine (plan_in words) d (none_group (strange (plan_in words)) groups i goes.known h) in
+      let below : d.flow < count_in words = rw (view_count words) at real.flow_below in
+      let fits = formed.header in
+      let short = flight_most (sx_in words) (sy_in words) _ d.D (flow_ok words formed d.flow below) fits.sx_ok.most fits.sy_ok.most real.few in (
+        record { ordered = omega (arith, real.time); short = omega (arith, real.time, short); some = goes.some; few = goes.few },
+        omega (arith, real.flow_below, goes.enough),
+      )
 
-    goes : Accepted (plan_in words) (groups_of deliveries) count last
-    goes = accepted _ _ count last (both_pass (state_number words) _ accepts).1
-
-    -- every group can be kept
-    keepable : (i : ℕ) → i < length deliveries / exit_size → (Keepable deliveries i last) × ((group_at deliveries i).flow < count)
-    unfolding groups_of plan_in state_of
-    keepable i h =
-        let d : Delivery = group_at deliveries i in
-        let real : Genuine (plan_in words) d =
-        known_genuine (plan_in words) d (none_below (strange (plan_in words)) (group_at deliveries) _ goes.known i h) in
-        let below : d.flow < count_in words = rw (view_count words) at real.flow_below in
-        let fits = formed.header in
-        let short = flight_most (sx_in words) (sy_in words) _ d.D (flow_ok words formed d.flow below) fits.sx_ok.most fits.sy_ok.most
-        real.few in (
-          record { has = omega arith; ordered = omega (arith, real.time); short = omega (arith, real.time, short); some = goes.some; few = goes.few },
-          omega (arith, real.flow_below, goes.enough),
-        )
-
-  can_keep : (count number : ℕ) → call_number words deliveries count last ≡ number → Feedable count deliveries (groups_fed number deliveries) last
-  can_keep count zero e = record { group = λ i h. (keepable count e i h).0; flow_below = λ i h. (keepable count e i h).1 }
-  can_keep count (suc n) e = record { group = λ i h. absurd (omega arith); flow_below = λ i h. absurd (omega arith) }
-
-  -- what is fed can be kept
-  pub feedable : (count number n : ℕ) → number ≡ call_number words deliveries count last → n ≡ groups_fed number deliveries
-      → Feedable count deliveries n last
-  feedable count number n e fed = rw fed (can_keep count number (sym e))
-
-  -- the call by its number
-  by_number : (records : List Recent) → let number = call_number words deliveries (length records) last in
-      outcome (answer_by number 0) (fed_first deliveries last (groups_fed number deliveries) records) ≡ feed_on words deliveries last records
-  unfolding feed_on unless groups_of fed_first turns
-  by_number records = by (state_number words) (feed_number (plan_in words) (groups_of deliveries) (length records) last)
-    where
-      by : (n m : ℕ) → outcome (answer_by (first_number n m) 0) (fed_first deliveries last (groups_fed (first_number n m) deliveries) records)
-          ≡ unless n records (unless m records (outcome (Done 0) (fed_all last (groups_of deliveries) records)))
-      by zero zero = rw (fed_groups deliveries last (length deliveries / exit_size) records)
-      by zero (suc m) = refl
-      by (suc n) m = refl
-
-  pub fed_by_number : (records fed : List Recent) (number n : ℕ) (a : Answer) → number ≡ call_number words deliveries (length records) last
-      → n ≡ groups_fed number deliveries → fed ≡ fed_first deliveries last n records → a ≡ answer_by number 0
-      → outcome a fed ≡ feed_on words deliveries last records
-  fed_by_number records fed number n a is groups all answer = rw (answer, all, groups, is) (by_number records)
+  pub feedable : Feedable groups count last
+  feedable = record { keepable = λ i h. (keepable i h).0; flow_below = λ i h. (keepable i h).1 }
 
 module _ (words deliveries : List ℕ) (last : ℕ) (records : List Recent) where
   -- a call that answers a number is on a state, and its deliveries are accepted
@@ -120,6 +86,11 @@ module _ (words deliveries : List ℕ) (last : ℕ) (records : List Recent) wher
       let state = unless_done _ _ _ v e in
       let feeding = unless_done _ _ _ v (ap (λ (o : Outcome Answer (List Recent)). o.answer) (sym state.1) ∙ e) in
       (state.0, accepted _ _ _ _ feeding.0)
+
+  -- on a state, the later checks decide
+  pub feed_checks : state_number words ≡ 0 → planned_on (plan_in words) deliveries last records ≡ feed_on words deliveries last records
+  unfolding feed_on unless
+  feed_checks formed = rw formed
 
   -- and such a call answers 0 and feeds them all
   pub feed_accepts : state_number words ≡ 0 → Accepted (plan_in words) (groups_of deliveries) (length records) last

@@ -1,33 +1,17 @@
--- Laws of feeding: one group more, and group by group. Rests on specs/Inner.
-use mathlib.Core.List.{List, [], ◌∷◌, ◌++◌}
+-- Laws of feeding: one group more. Rests on specs/Inner.
+use mathlib.Core.List.{List, [], ◌∷◌, ◌++◌, map, map-append}
 use mathlib.Core.Path.{◌≡◌, refl}
-use Prim.Native.Nat.{ℕ, zero, suc, ◌+◌, ◌<◌}
-use lib.ListN.{length, get_or, set}
+use Prim.Native.Nat.{ℕ, ◌+◌, ◌<◌}
+use native.Mathlib.Numerals.{add-one}
+use lib.ListN.{length, get_or, set, take}
+use lib.Seq.{take-suc}
 use Rattle.std.proofs.lemmas.List.{get_or_default}
-use Rattle.laws.specs.Bounded.{tabulate}
-use Rattle.laws.specs.Turns.{turns}
-use Rattle.laws.proofs.Turns.{turns_more}
 use Rattle.router.specs.Delivery.{Delivery}
 use Rattle.recent.specs.declared.Recent.{Recent}
 use Rattle.recent.specs.Recent.{no_record}
-use Rattle.delivery.specs.Groups.{group_at}
+use Rattle.delivery.specs.Inner.{group_in}
 use Rattle.feed.specs.Feed.{fed_one, fed_all}
-use Rattle.feed.specs.Inner.{kept_with, fed_first}
-
--- none
-pub fed_none : (w : List ℕ) (last : ℕ) (records : List Recent) → records ≡ fed_first w last 0 records
-unfolding fed_first turns
-fed_none w last records = refl
-
--- one group more, at its flow's record, which is read at any default
-pub fed_next : (w : List ℕ) (last i : ℕ) (records fed : List Recent) (f : ℕ) (r d : Recent)
-    → fed ≡ fed_first w last i records → f ≡ (group_at w i).flow → f < length fed → r ≡ kept_with w last i (get_or fed f d)
-    → set fed f r ≡ fed_first w last (i + 1) records
-unfolding fed_first fed_one kept_with
-fed_next w last i records fed f r d e flow below is =
-    let all = turns_more i (λ i. fed_one last (group_at w i)) records fed e in
-    let same = get_or_default fed f d no_record below in
-    rw (is, same, flow) all
+use Rattle.feed.specs.Inner.{kept_with}
 
 -- one delivery after others
 fed_snoc : (last : ℕ) (ds : List Delivery) (d : Delivery) (records : List Recent)
@@ -35,9 +19,13 @@ fed_snoc : (last : ℕ) (ds : List Delivery) (d : Delivery) (records : List Rece
 fed_snoc last [] d records = refl
 fed_snoc last (e ∷ ds) d records = fed_snoc last ds d (fed_one last e records)
 
--- group by group
-pub fed_groups : (w : List ℕ) (last n : ℕ) (records : List Recent) → fed_first w last n records ≡ fed_all last (tabulate n (group_at w)) records
-unfolding fed_first turns tabulate
-fed_groups w last zero records = refl
-fed_groups w last (suc n) records =
-    rw (fed_snoc last (tabulate n (group_at w)) (group_at w n) records, ← (fed_groups w last n records))
+-- one group more, at its flow's record, which is read at any default
+pub fed_next : (groups : List (List ℕ)) (last i : ℕ) (records fed : List Recent) (d : Delivery) (r none : Recent)
+    → i < length groups → d ≡ group_in (get_or groups i []) → fed ≡ fed_all last (map group_in (take i groups)) records
+    → (group_in (get_or groups i [])).flow < length fed → r ≡ kept_with last d (get_or fed d.flow none)
+    → set fed d.flow r ≡ fed_all last (map group_in (take (i + 1) groups)) records
+unfolding fed_one kept_with
+fed_next groups last i records fed d r none more group e inside is =
+    let below : d.flow < length fed = rw group inside in
+    let same = get_or_default fed d.flow none no_record below in
+    rw (is, same, add-one, take-suc groups i [] more, map-append, fed_snoc last (map group_in (take i groups)) (group_in (get_or groups i [])) records, group, e)

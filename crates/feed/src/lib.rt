@@ -1,22 +1,28 @@
 // Feeding a step's deliveries to the records of recent flights. Rests on delivery, recent and valid.
 #![tactic(auto)]
 
-ghost use Rattle.std.specs.Prelude.{◌≡◌, length};
+ghost use Rattle.std.specs.Prelude.{◌≡◌, length, map};
 ghost use Rattle.refusal.specs.Answer.{told, number_in};
 ghost use Rattle.state.specs.Read.{plan_in};
 ghost use Rattle.state.specs.Outcome.{outcome};
-ghost use Rattle.delivery.specs.Groups.{group_at, groups_of};
-ghost use Rattle.delivery.specs.Inner.{HasGroup};
-ghost use Rattle.feed.specs.Feed.{feed_number, feed_on};
-ghost use Rattle.feed.specs.Inner.{Keepable, Feedable, kept_with, fed_first, call_number, groups_fed};
+ghost use Rattle.delivery.specs.Groups.{groups_of};
+ghost use Rattle.delivery.specs.Inner.{as_told, group_in};
+ghost use Rattle.feed.specs.Feed.{fed_all, feed_number, feed_on};
+ghost use Rattle.feed.specs.Inner.{Keepable, Feedable, kept_with};
 
+use delivery::Delivery;
 use recent::Recent;
 use refusal::{Cause, Refusal};
 use state::StateWords;
 
 // What a call is refused for after the state's own.
 #[tactic(auto, using(state::proofs::View::view_count), unfolding(crate::specs::Feed::feed_number))]
-fn check_records(state: &StateWords, deliveries: &[u32], count: usize, last: u32) -> Result<(), Cause>
+fn check_records(
+    state: &StateWords,
+    deliveries: &[u32],
+    count: usize,
+    last: u32,
+) -> Result<(), Cause>
     ensures { number_in result ≡ feed_number (plan_in state.now) (groups_of deliveries.now) count last }
 {
     if count < (state.flows() as usize) {
@@ -31,51 +37,38 @@ fn check_records(state: &StateWords, deliveries: &[u32], count: usize, last: u32
     Ok(())
 }
 
-// What the call is refused for.
-fn check_call(state: &[u32], deliveries: &[u32], count: usize, last: u32) -> Result<(), Cause>
-    ensures { number_in result ≡ call_number state.now deliveries.now count last }
-{
-    check_records(&valid::read_state(state)?, deliveries, count, last)
-}
-
-// The flow of group i.
-fn flow_of(deliveries: &[u32], i: usize) -> usize
-    requires { HasGroup deliveries.now i }
-    ensures { result ≡ (group_at deliveries.now i).flow }
-{
-    deliveries[cycle::EXIT_SIZE * i] as usize
-}
-
-// A record with group i.
+// A record with a delivery.
 #[tactic(auto, unfolding(crate::specs::Inner::kept_with))]
-fn kept_with(r: Recent, deliveries: &[u32], i: usize, last: u32) -> Recent
-    requires { Keepable deliveries.now i last }
-    ensures { result ≡ kept_with deliveries.now last i r }
+fn kept_with(r: Recent, d: Delivery, last: u32) -> Recent
+    requires { Keepable (as_told d) last }
+    ensures { result ≡ kept_with last (as_told d) r }
 {
-    let t = delivery::trip_at(deliveries, i);
-    let flight = t.exit - t.entry + 2;
-    recent::with_delivery(r, last, flight, t.deflections)
+    let flight = d.exit - d.entry + 2;
+    recent::with_delivery(r, last, flight, d.deflections)
 }
 
-// The first n groups, each at its flow's record.
-#[tactic(auto, using(crate::proofs::Fed::fed_none, crate::proofs::Fed::fed_next))]
-fn feed_groups(records: &mut [Recent], deliveries: &[u32], n: usize, last: u32)
-    requires { Feedable (length records.old) deliveries.now n last }
-    ensures { records.new ≡ fed_first deliveries.now last n records.old }
+// Each group at its flow's record.
+fn feed_groups(records: &mut [Recent], groups: &[[u32; cycle::EXIT_SIZE]], last: u32)
+    requires { Feedable groups.now (length records.old) last }
+    ensures { records.new ≡ fed_all last (map group_in groups.now) records.old }
 {
-    for i in 0..n {
-        let f = flow_of(deliveries, i);
-        let t = records[f];
-        records[f] = kept_with(t, deliveries, i, last);
+    for group in groups {
+        let d = Delivery::from(*group);
+        let at = d.flow as usize;
+        records[at] = kept_with(records[at], d, last);
     }
 }
 
 // A step's deliveries, each at its flow's record of the last L; or the refusal, before any record changes.
-#[tactic(auto, using(crate::proofs::Accepted::feedable, crate::proofs::Accepted::fed_by_number))]
-pub fn feed(state: &[u32], deliveries: &[u32], records: &mut [Recent], last: u32) -> Result<(), Refusal>
+pub fn feed(
+    state: &[u32],
+    deliveries: &[u32],
+    records: &mut [Recent],
+    last: u32,
+) -> Result<(), Refusal>
     ensures { outcome (told result) records.new ≡ feed_on state.now deliveries.now last records.old }
 {
-    check_call(state, deliveries, records.len(), last)?;
-    feed_groups(records, deliveries, deliveries.len() / cycle::EXIT_SIZE, last);
+    check_records(&valid::read_state(state)?, deliveries, records.len(), last)?;
+    feed_groups(records, delivery::whole_groups(deliveries), last);
     Ok(())
 }

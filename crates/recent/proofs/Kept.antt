@@ -3,31 +3,20 @@ use mathlib.Core.List.{List, [], ◌∷◌, ◌++◌, append_assoc}
 use mathlib.Core.Path.{◌≡◌, refl, sym}
 use Prim.Native.Nat.{ℕ, suc, ◌+◌, ◌-◌, ◌≤◌, ◌<◌, max}
 use native.Mathlib.Omega.{arith}
-use native.Mathlib.Numerals.{add-one}
-use lib.ListN.{length, get_or, set, take, drop, replicate, length-append, length-drop}
-use lib.Seq.{length-take-le, take-suc, take-add, take_at, drop-append-le, drop_at, set_at, get_or-drop}
+use lib.ListN.{length, set, take, drop, replicate, length-append, length-drop}
+use lib.Seq.{length-take-le, take-add, take_at, drop-append-le, drop_at, set_at}
+use Rattle.std.specs.List.{fold, reduce}
+use Rattle.std.specs.Option.{unwrap_or}
+use Rattle.std.proofs.lemmas.List.{drop-replicate}
 use Rattle.recent.specs.Recent.{most_kept, largest, laid_out, one_more}
 
--- one entry more is laid out where the first zero stood
-pub laid_more : (l : List ℕ) (x n : ℕ) → length l ≡ n → n < most_kept → set (laid_out l) n x ≡ laid_out (l ++ (x ∷ []))
+-- kept entries over zeros, and one more where the first zero stands
+pub laid_more : (l : List ℕ) (x n : ℕ) → length l ≡ n → n < most_kept → set (l ++ drop n (replicate most_kept 0)) n x ≡ laid_out (l ++ (x ∷ []))
 unfolding laid_out
 laid_more l x n e h =
-    let left : most_kept - length l ≡ suc (most_kept - (length l + 1)) = omega arith in
-    rw (length-append l (x ∷ []), left, append_assoc l (x ∷ []) (replicate (most_kept - (length l + 1)) 0))
+    let left : most_kept - n ≡ suc (most_kept - (length l + 1)) = omega arith in
+    rw (length-append l (x ∷ []), drop-replicate {X = ℕ} n most_kept 0, left, append_assoc l (x ∷ []) (replicate (most_kept - (length l + 1)) 0))
     (set_at l 0 (replicate (most_kept - (length l + 1)) 0) x n e)
-
--- nothing laid out
-pub laid_none : replicate most_kept 0 ≡ laid_out []
-unfolding laid_out
-laid_none = refl
-
--- of the entries from a place on, one more is laid out
-pub laid_next : (old : List ℕ) (from j : ℕ) → from + j < length old → length old ≡ most_kept
-    → set (laid_out (take j (drop from old))) j (get_or old (from + j) 0) ≡ laid_out (take (j + 1) (drop from old))
-laid_next old from j h long =
-    let inside : j < length (drop from old) = omega (arith, length-drop from old) in
-    rw (add-one, take-suc (drop from old) j 0 inside, get_or-drop from old j 0)
-    (laid_more (take j (drop from old)) (get_or old (from + j) 0) j (length-take-le j (drop from old) (omega arith)) (omega arith))
 
 -- of the entries held, and one more, those from a place on
 from_place : (old : List ℕ) (x from n : ℕ) → from + n ≤ length old
@@ -53,18 +42,18 @@ module _ (last held : ℕ) (old : List ℕ) (x from n : ℕ) (goes : from ≡ he
   last_length =
       rw (← last_kept, length-append (take n (drop from old)) (x ∷ []), length-take-le n (drop from old) (omega (arith, length-drop from old)))
 
-largest_append : (l k : List ℕ) → largest (l ++ k) ≡ max (largest l) (largest k)
+largest_from : (b : ℕ) (l : List ℕ) → fold max b l ≡ max b (largest l)
 unfolding largest
-largest_append [] k = omega arith
-largest_append (x ∷ l) k = omega (arith, largest_append l k)
+largest_from b [] = omega arith
+largest_from b (x ∷ l) = omega (arith, largest_from (max b x) l)
+
+-- the largest, by the library's `max`
+pub largest_max : (l : List ℕ) → unwrap_or (reduce max l) 0 ≡ largest l
+unfolding largest
+largest_max [] = refl
+largest_max (x ∷ l) = largest_from x l
 
 -- the kept ones among what is laid out
 pub kept_laid : (l : List ℕ) (n : ℕ) → length l ≡ n → take n (laid_out l) ≡ l
 unfolding laid_out
 kept_laid l n e = take_at l (replicate (most_kept - length l) 0) n e
-
--- the largest of one entry more
-pub largest_more : (l : List ℕ) (j : ℕ) → j < length l → max (largest (take j l)) (get_or l j 0) ≡ largest (take (j + 1) l)
-unfolding largest
-largest_more l j h =
-    rw (add-one, take-suc l j 0 h, largest_append (take j l) (get_or l j 0 ∷ [])) (omega arith)

@@ -1,16 +1,16 @@
 // The record of a flow's recent flights, by value. Rests on laws.
 #![tactic(auto)]
 
-ghost use Rattle.std.specs.Prelude.{◌≡◌, ◌+◌, ◌-◌, ◌≤◌, max, length, take};
+ghost use Rattle.std.specs.Prelude.{◌≡◌, ◌+◌, ◌-◌, ◌≤◌, length, take};
 ghost use Rattle.recent.specs.Recent.{most_kept, largest, laid_out, held_by, one_more, with_delivery};
 
 // A record keeps at most this many deliveries.
 pub const MOST_KEPT: usize = 16;
 
 // The last deliveries of a flow: how many are held, the longest flight, the most deflections, and each one's flight and deflections,
-// oldest first, zeros behind.
+// oldest first, zeros behind. C sees it (include/hrt.h), so the flights and the deflections are two arrays.
 #[repr(C)]
-#[derive(Clone, Copy)]
+#[derive(Clone, Copy, Debug, PartialEq, Eq)]
 pub struct Recent {
     pub held: u32,
     pub longest: u32,
@@ -24,10 +24,7 @@ fn held_by(last: u32, held: u32) -> u32
     ensures value { result ≡ held_by last held }
     ensures upper_bound { result ≤ last }
 {
-    if last < held {
-        return 0;
-    }
-    held
+    if last < held { 0 } else { held }
 }
 
 // How many go when one more comes: the oldest where L are held.
@@ -35,10 +32,7 @@ fn gone(last: u32, held: u32) -> u32
     requires { (1 ≤ last) × (held ≤ last) }
     ensures { result ≡ held + 1 - last }
 {
-    if held < last {
-        return 0;
-    }
-    1
+    if held < last { 0 } else { 1 }
 }
 
 // The last L of those held and one more, zeros behind.
@@ -50,20 +44,9 @@ fn one_more(last: u32, held: u32, old: [u32; MOST_KEPT], x: u32) -> [u32; MOST_K
     let from = gone(last, held) as usize;
     let n = (held as usize) - from;
     let mut new = [0u32; MOST_KEPT];
-    for j in 0..n {
-        new[j] = old[from + j];
-    }
+    new[..n].copy_from_slice(&old[from..held as usize]);
     new[n] = x;
     new
-}
-
-fn larger(a: u32, b: u32) -> u32
-    ensures { result ≡ max a b }
-{
-    if a < b {
-        return b;
-    }
-    a
 }
 
 // The largest of the first n entries.
@@ -71,11 +54,7 @@ fn largest(a: [u32; MOST_KEPT], n: usize) -> u32
     requires { n ≤ most_kept }
     ensures { result ≡ largest (take n a) }
 {
-    let mut most = 0u32;
-    for i in 0..n {
-        most = larger(most, a[i]);
-    }
-    most
+    a[..n].iter().copied().max().unwrap_or(0)
 }
 
 // A flow's record after a delivery with this flight and D.
@@ -85,16 +64,12 @@ pub fn with_delivery(r: Recent, last: u32, flight: u32, d: u32) -> Recent
 {
     let held = held_by(last, r.held);
     let kept = held + 1 - gone(last, held);
-    let old_flights = r.flights;
-    let old_deflections = r.deflections;
-    let flights = one_more(last, held, old_flights, flight);
-    let deflections = one_more(last, held, old_deflections, d);
-    let longest = largest(flights, kept as usize);
-    let most = largest(deflections, kept as usize);
+    let flights = one_more(last, held, r.flights, flight);
+    let deflections = one_more(last, held, r.deflections, d);
     Recent {
         held: kept,
-        longest,
-        most,
+        longest: largest(flights, kept as usize),
+        most: largest(deflections, kept as usize),
         flights,
         deflections,
     }

@@ -58,7 +58,7 @@ fed_outcomes p memory (i ∷ is) =
 -- five words for each exit that a call answers
 abbrev word_count : Answer → ℕ
 word_count (Done count) = exit_size * count
-word_count (Refused number place) = 0
+word_count (Refused n place) = 0
 
 abbrev delivered_by : List (Outcome Answer Beside) → List ℕ
 delivered_by [] = []

@@ -1,21 +1,23 @@
 -- `strange`: no flow of the plan, or impossible for its flow.
+use mathlib.Core.Path.{◌∙◌}
+use borrow.Author.Tests.{le-leb}
 use Rattle.cycle.proofs.Facts.{flow_ok}
-use Rattle.delivery.specs.Groups.{group_at}
+use Rattle.delivery.specs.Inner.{as_told}
 use Rattle.delivery.proofs.Groups.{no_flow, of_flow_lem}
 use Rattle.delivery.proofs.strange.Goals as goal
 
-pub returns-then-state-flow : goal.returns-then-state-flow
-returns-then-state-flow c =
-    let a = c.args in
-    no_flow a.state.now (group_at a.deliveries.now a.i) c.if-state-flow.true
+pub returns-then-flows-d : goal.returns-then-flows-d
+returns-then-flows-d c =
+    le-leb _ _ c.if-flows-d.true ∙ no_flow c.args.state.now (as_told c.args.d) (rw (← c.flows.ensures.value) c.if-flows-d.true)
 
 pub impossible-requires : goal.impossible-requires
 impossible-requires c =
-    let h = c.requires.facts.header in
-    (rw c.flow_at-f.ensures (flow_ok _ c.requires.facts _ c.if-state-flow.false), (h.sx_ok.most, h.sy_ok.most))
+    let facts = c.flows.ensures.facts in
+    let header = facts.header in
+    rw (c.sx.ensures.value, c.sy.ensures.value, c.flow.ensures.value)
+    (flow_ok _ facts _ (rw (← c.flows.ensures.value) c.if-flows-d.false), (header.sx_ok.most, header.sy_ok.most))
 
-pub returns : goal.returns
-returns c =
-    let a = c.args in
-    rw (c.impossible.ensures, c.trip_at-t.ensures, c.flow_at-f.ensures)
-    (of_flow_lem a.state.now (group_at a.deliveries.now a.i) c.if-state-flow.false)
+pub returns-else-flows-d : goal.returns-else-flows-d
+returns-else-flows-d c =
+    rw (c.impossible.ensures, c.sx.ensures.value, c.sy.ensures.value, c.flow.ensures.value)
+    (of_flow_lem c.args.state.now (as_told c.args.d) (rw (← c.flows.ensures.value) c.if-flows-d.false))

@@ -12,8 +12,8 @@ returns c =
     let kept = held + 1 - (held + 1 - a.last) in
     rw (
       ← c.held_by-held.ensures.value,
-      c.largest-most.ensures,
-      c.largest-longest.ensures,
+      c.largest-2.ensures,
+      c.largest.ensures,
       c.one_more-deflections.ensures.value,
       c.one_more-flights.ensures.value,
       c.gone.ensures,
