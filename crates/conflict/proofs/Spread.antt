@@ -12,9 +12,8 @@ use Rattle.flow.specs.Plan.{Plan, most_size}
 use Rattle.flow.specs.Offsets.{ΔX, ΔY, same_client}
 use Rattle.turning.specs.Turning.{is_turning}
 use Rattle.turning.proofs.Turning.{south_most}
-use Rattle.conflict.specs.Conflict.{Conflict}
 use Rattle.std.specs.Prelude.{Some, None}
-use Rattle.conflict.specs.Conflict.{rows_to, columns_to, laps, conflict_east, conflict_south, conflict_by, conflict}
+use Rattle.conflict.specs.Conflict.{Conflict, rows_to, columns_to, laps, conflict_east, conflict_south, conflict_by, conflict}
 use Rattle.conflict.specs.Inner.{Pair, most_spread}
 
 -- the conflict names no larger spread
@@ -32,7 +31,7 @@ either true h k = h
 either false h k = k
 
 module _ (sx sy : ℕ) (f g : Flow) (h : Pair sx sy f g) where
-  pub rows_below : rows_to sy f g < sy
+  rows_below : rows_to sy f g < sy
   rows_below = offset_below sy g.ys f.ys h.other.ys_on h.own.ys_on
 
   module _ (turns : ℕ → Bool) where
