@@ -1,36 +1,23 @@
--- `ask`: the plan's answer, then the number of flows.
-use borrow.Author.Tests.{lt-ltb, le-ltb}
-use mathlib.Core.Path.{◌≡◌, sym, ◌∙◌}
-use lib.ListN.{length}
-use Rattle.refusal.specs.Answer.{Done}
-use Rattle.file.specs.Layout.{plan_of}
-use Rattle.plan.specs.Refusals.{plan_answer}
-use Rattle.plan.proofs.Accepted.{done_trailed}
+-- `ask`: the plan's refusal, or 12, or a flow of the plan.
+use native.Mathlib.Omega.{arith}
+use Rattle.std.proofs.lemmas.Result.{err_from_is_err_and}
 use Rattle.plan.proofs.Ranges.{plan_count}
-use Rattle.bounds.specs.Bounds.{asked}
+use Rattle.bounds.proofs.Asked.{asked_first, asked_beyond, asked_own}
 use Rattle.bounds.proofs.ask.Goals as goal
-use Rattle.bounds.proofs.ask.Goals.{After-trailer_of-count, In-Done}
 
--- reading accepts the file
-done : (c : goal.In-Done) → plan_answer c.args.file.now ≡ Done c.in-Done.field-0
-done c = sym c.plan_answer.ensures ∙ c.in-Done.is
+pub returns-in_err-plan-clause-answer : goal.returns-in_err-plan-clause-answer
+returns-in_err-plan-clause-answer c =
+    let p = err_from_is_err_and c.from_residual.result c.from_residual.ensures.1 in
+    rw (p.1, p.2) (asked_first _ _ _ _ _ c.in_err-plan.ensures.answer)
 
--- the count that the trailer has is the plan's
-count : (c : goal.After-trailer_of-count) → let file = c.args.file.now in
-    length (plan_of file).flows ≡ c.trailer_of-count.result.count
-count c = rw c.trailer_of-count.ensures (plan_count _)
+pub returns-then-trailer-f-clause-answer : goal.returns-then-trailer-f-clause-answer
+returns-then-trailer-f-clause-answer c =
+    let count = plan_count c.args.file.now in
+    let read = rw c.in_ok-plan.ensures.file at c.trailer.ensures.value in
+    rw c.into.ensures (asked_beyond _ _ _ c.in_ok-plan.ensures.answer (omega (arith, rw read at c.if-trailer-f.true)))
 
-pub returns-then-count-f : goal.returns-then-count-f
-unfolding asked
-returns-then-count-f c = rw (done (goal.at.returns-then-count-f c).In-Done, count (goal.at.returns-then-count-f c).After-trailer_of-count, le-ltb _ _ c.if-count-f.true)
-
-pub returns-in-Refused : goal.returns-in-Refused
-unfolding asked
-returns-in-Refused c = rw (← c.plan_answer.ensures, c.in-Refused.is)
-
-pub returns-else-count-f : goal.returns-else-count-f
-unfolding asked
-returns-else-count-f c = rw (done (goal.at.returns-else-count-f c).In-Done, count (goal.at.returns-else-count-f c).After-trailer_of-count, lt-ltb _ _ c.if-count-f.false)
-
-pub trailer_of-count-requires : goal.trailer_of-count-requires
-trailer_of-count-requires c = (done_trailed _ _ (done c)).long
+pub returns-clause-answer : goal.returns-clause-answer
+returns-clause-answer c =
+    let count = plan_count c.args.file.now in
+    let read = rw c.in_ok-plan.ensures.file at c.trailer.ensures.value in
+    asked_own _ _ _ c.in_ok-plan.ensures.answer (omega (arith, rw read at c.if-trailer-f.false))
