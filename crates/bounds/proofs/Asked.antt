@@ -20,7 +20,8 @@ unfolding asked
 asked_first file f n place a e = rw (← e)
 
 -- no flow of an accepted file
-pub asked_beyond : (file : List ℕ) (f : ℕ) (a : Answer) → Done 0 ≡ plan_answer file → length (plan_of file).flows ≤ f → Refused 12 0 ≡ asked file f a
+pub asked_beyond : (file : List ℕ) (f : ℕ) (a : Answer) → Done 0 ≡ plan_answer file → length (plan_of file).flows ≤ f
+    → Refused 12 0 ≡ asked file f a
 unfolding asked
 asked_beyond file f a e h = rw (← e, le-ltb f _ h)
 
@@ -51,7 +52,8 @@ pub asked_done : (file : List ℕ) (f v : ℕ) → asked file f (Done 0) ≡ Don
 unfolding asked
 asked_done file f v e = go (plan_answer file) refl e
   where
-    go : (plan : Answer) → plan_answer file ≡ plan → refused_or plan (cond (ltb f (length (plan_of file).flows)) (Done 0) (Refused 12 0)) ≡ Done v → Known file f
+    go : (plan : Answer) → plan_answer file ≡ plan
+        → refused_or plan (cond (ltb f (length (plan_of file).flows)) (Done 0) (Refused 12 0)) ≡ Done v → Known file f
     go (Refused n place) p q = absurd (refused_done n place v q)
     go (Done w) p q =
         elim (test (ltb f (length (plan_of file).flows))) [

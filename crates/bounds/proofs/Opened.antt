@@ -29,7 +29,8 @@ module _ (file : List ℕ) where
       pub flow_fits_lem : FlowOk (plan_of file).sx (plan_of file).sy (flow_at (plan_of file) f)
       flow_fits_lem = ok.flow_ok f (rw (plan_count file) below)
 
-      pub flow_pair : (g : ℕ) → g < (trailer_of file).count → Pair (plan_of file).sx (plan_of file).sy (flow_at (plan_of file) f) (flow_at (plan_of file) g)
+      pub flow_pair : (g : ℕ) → g < (trailer_of file).count
+          → let p = plan_of file in Pair p.sx p.sy (flow_at p f) (flow_at p g)
       flow_pair g l =
           record { sx_most = ok.sx_most; sy_most = ok.sy_most; own = flow_fits_lem; other = ok.flow_ok g (rw (plan_count file) l) }
 

@@ -121,6 +121,7 @@ impl Bounds<'_> {
 }
 
 // The plan file that a call on flow f asks, or the call's refusal.
+#[tactic(auto, using(crate::proofs::Asked::asked_first, crate::proofs::Asked::asked_beyond, crate::proofs::Asked::asked_own, plan::proofs::Ranges::plan_count))]
 fn ask(file: &[u8], f: u32) -> Result<PlanFile<'_>, Refusal>
     ensures answer { answer_with (λ plan. 0) result ≡ asked file.now f (Done 0) }
     ensures plan { IfOk result (λ plan. (plan ≡ file.now) × ((f < (trailer_of plan).count) × PlanOk (plan_of plan))) }
