@@ -20,11 +20,12 @@ impl Bucket {
     {
         Bucket {
             tokens: self.tokens - 1,
-            count: self.count,
+            ..self
         }
     }
 
     // The bucket after the counter has run for a cycle. At the period it returns to 0 and gives a token, lost if the bucket is full.
+    #[tactic(auto, unfolding(crate::specs::Regulator::after_count))]
     pub fn count(self, burst: u32, period: u32) -> Bucket
         requires { self.count < period }
         ensures { result ≡ after_count burst period self }
@@ -36,35 +37,32 @@ impl Bucket {
             } else {
                 self.tokens
             };
-            return Bucket { tokens, count: 0 };
-        }
-        Bucket {
-            tokens: self.tokens,
-            count: next,
+            Bucket { tokens, count: 0 }
+        } else {
+            Bucket {
+                count: next,
+                ..self
+            }
         }
     }
 
     // The bucket after k cycles without an entry.
+    #[tactic(auto, unfolding(crate::specs::Passed::after_cycles))]
     pub fn pass(self, burst: u32, period: u32, k: u32) -> Bucket
         requires { 1 ≤ period }
         ensures { result ≡ after_cycles burst period k self }
     {
-        let ran = (self.count as u64) + (k as u64);
-        let tokens = (self.tokens as u64) + ran / (period as u64);
-        let count = (ran % (period as u64)) as u32;
-        if tokens < (burst as u64) {
-            return Bucket {
-                tokens: tokens as u32,
-                count,
-            };
-        }
+        let period = u64::from(period);
+        let ran = u64::from(self.count) + u64::from(k);
+        let tokens = u64::from(self.tokens) + ran / period;
         Bucket {
-            tokens: burst,
-            count,
+            tokens: tokens.min(u64::from(burst)) as u32,
+            count: (ran % period) as u32,
         }
     }
 
     // What words that form a state have of a bucket.
+    #[tactic(auto, unfolding(crate::specs::Regulator::bucket_fits))]
     pub fn fits(self, burst: u32, period: u32) -> bool
         ensures { result ≡ bucket_fits burst period self }
     {
@@ -73,13 +71,10 @@ impl Bucket {
 }
 
 // The most entries of a flow in d + 1 neighbouring cycles: its curve.
+#[tactic(auto, using(crate::proofs::Curve::curve_by_div))]
 pub fn most_entries(burst: u32, period: u32, d: u32) -> u32
     requires { (1 ≤ period) × (burst + d < 4294967296) }
     ensures { result ≡ curve burst period d }
 {
-    let whole = burst + d / period;
-    if d % period == 0 {
-        return whole;
-    }
-    whole + 1
+    burst + d.div_ceil(period)
 }

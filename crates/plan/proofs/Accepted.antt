@@ -12,10 +12,12 @@ use Rattle.flow.specs.Plan.{most_size, most_flows}
 use Rattle.flow.specs.Ranges.{SizeOk}
 use Rattle.file.specs.declared.Trailer.{Trailer}
 use Rattle.file.specs.Layout.{most_file, trailer_size, record_size, tagged, trailer_of}
-use Rattle.refusal.specs.Answer.{Done}
+use Rattle.refusal.specs.declared.Cause.{Cause}
+use Rattle.refusal.specs.Cause.{cause_number}
+use Rattle.refusal.specs.Answer.{Done, Refused}
 use Rattle.plan.specs.Inner.{Framed}
 use Rattle.plan.specs.Refusals.{size_ok, header_number, trailer_number, answer_by, records_answer, plan_answer}
-use Rattle.plan.proofs.Refusals.{or_else_done, answer_done}
+use Rattle.plan.proofs.Refusals.{or_else_done, answer_done, cause_answer}
 
 pub size_ok_lem : (s : ℕ) → size_ok s ≡ true → SizeOk s
 size_ok_lem s e =
@@ -64,3 +66,13 @@ unfolding plan_answer
 done_trailed file v e =
     let parts = or_else_done (answer_by (trailer_number file) 0) (records_answer file (trailer_of file)) v e in
     trailed file (answer_done (trailer_number file) 0 parts.0 parts.1)
+
+-- a trailer's refusal is the file's
+pub trailer_refused : (file : List ℕ) (c : Cause) → cause_number c ≡ trailer_number file → Refused (cause_number c) 0 ≡ plan_answer file
+unfolding plan_answer
+trailer_refused file c e = rw (← e, ← (cause_answer c 0))
+
+-- and behind an accepted trailer that of its records
+pub answer_by_records : (file : List ℕ) → trailer_number file ≡ 0 → plan_answer file ≡ records_answer file (trailer_of file)
+unfolding plan_answer
+answer_by_records file e = rw e

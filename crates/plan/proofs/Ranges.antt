@@ -1,8 +1,8 @@
 -- The plan of an accepted file lies in 01's ranges. Rests on Accepted.
 use mathlib.Core.Bool.{not, ◌||◌}
 use mathlib.Core.List.{List}
-use mathlib.Core.Path.{◌≡◌}
-use Prim.Native.Nat.{ℕ, ◌+◌, ◌≤◌, ◌<◌}
+use mathlib.Core.Path.{◌≡◌, sym}
+use Prim.Native.Nat.{ℕ, ◌+◌, ◌-◌, ◌*◌, ◌≤◌, ◌<◌}
 use native.Mathlib.Omega.{arith}
 use borrow.Author.Tests.{eqb-false, not-false}
 use lib.Dec.{eqb}
@@ -15,7 +15,8 @@ use Rattle.flow.specs.Plan.{flow_at, no_flow, on_torus}
 use Rattle.flow.specs.Ranges.{FlowOk, PlanOk}
 use Rattle.refusal.specs.Answer.{Done}
 use Rattle.file.specs.Bytes.{little_endian2}
-use Rattle.file.specs.Layout.{trailer_of, period_at, flow_from, record_at, plan_of}
+use Rattle.file.specs.declared.Trailer.{Trailer}
+use Rattle.file.specs.Layout.{record_size, trailer_size, trailer_of, period_at, flow_from, record_at, plan_of}
 use Rattle.plan.specs.Refusals.{record_number, flow_number, trailer_number, answer_by, records_answer, plan_answer}
 use Rattle.plan.proofs.Refusals.{or_else_done, first_done}
 use Rattle.plan.proofs.Accepted.{done_trailed}
@@ -93,3 +94,14 @@ module _ (file : List ℕ) where
           flows_most = rw plan_count t.frame.count_most;
           flow_ok = λ f l. let below = rw plan_count at l in rw (plan_flow f below) (flow_ok f below);
         }
+
+-- flow f of an accepted file with its trailer: its record stands in the file, and has the plan's flow
+module _ (file : List ℕ) (t : Trailer) (f : ℕ) (e : plan_answer file ≡ Done 0) (is : t ≡ trailer_of file) (l : f < t.count) where
+  pub flow_long : t.start + record_size * f + record_size ≤ length file
+  flow_long =
+      let trailed = done_trailed file 0 e in
+      let ends : t.start + record_size * t.count ≡ length file - trailer_size = rw is trailed.frame.ends in
+      omega (arith, trailed.long)
+
+  pub flow_read : flow_from file (t.start + record_size * f) ≡ flow_at (plan_of file) f
+  flow_read = rw is (sym (plan_flow file f (rw is at l)))

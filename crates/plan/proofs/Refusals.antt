@@ -5,7 +5,10 @@ use Prim.Native.Nat.{ℕ, zero, suc, ◌+◌, ◌<◌}
 use native.Mathlib.Nat.{eq-or-lt_of_le, le_of_suc-le-suc}
 use native.Mathlib.Numerals.{add-one}
 use native.Mathlib.Omega.{arith}
+use Rattle.refusal.specs.declared.Cause.{Cause}
+use Rattle.refusal.specs.Cause.{cause_number}
 use Rattle.refusal.specs.Answer.{Answer, Done, Refused}
+use Rattle.refusal.proofs.Causes.{cause_some}
 use Rattle.plan.specs.Refusals.{answer_by, refused_or, first_refused}
 
 -- a refusal is no accepted answer
@@ -15,6 +18,9 @@ refused_done n place v e = let z : ◌≡◌ {A = ℕ} 0 1 = cc in omega arith
 pub answer_refused : (n place : ℕ) → (n ≡ 0 → ⊥) → Refused n place ≡ answer_by n place
 answer_refused zero place h = absurd (h refl)
 answer_refused (suc n) place h = refl
+
+pub cause_answer : (c : Cause) (place : ℕ) → Refused (cause_number c) place ≡ answer_by (cause_number c) place
+cause_answer c place = answer_refused (cause_number c) place (cause_some c)
 
 pub answer_done : (n place v : ℕ) → answer_by n place ≡ Done v → n ≡ 0
 answer_done zero place v e = refl
@@ -48,6 +54,10 @@ module _ (number : ℕ → ℕ) where
         | inl same ↦ rw (← same, earlier) (answer_refused (number i) i here)
         | inr below ↦ rw (← (first_at n i below earlier here))
       ]
+
+  pub cause_first : (n i : ℕ) (c : Cause) → i < n → first_refused number i ≡ Done 0 → cause_number c ≡ number i
+      → Refused (cause_number c) i ≡ first_refused number n
+  cause_first n i c l earlier is = rw is (first_at n i l earlier (λ none. cause_some c (is ∙ none)))
 
   -- none is refused where every number is 0
   pub first_all : (n : ℕ) → ((i : ℕ) → i < n → number i ≡ 0) → first_refused number n ≡ Done 0

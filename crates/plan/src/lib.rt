@@ -46,6 +46,7 @@ pub fn size_ok(s: u32) -> bool
 }
 
 // What sizes, count and start are refused for.
+#[tactic(auto, unfolding(crate::specs::Refusals::header_number))]
 fn check_header(t: Trailer, length: usize) -> Result<(), Cause>
     requires { trailer_size ≤ length }
     ensures { number_in result ≡ header_number t length }
@@ -63,6 +64,7 @@ fn check_header(t: Trailer, length: usize) -> Result<(), Cause>
 }
 
 // What a file is refused for before its records.
+#[tactic(auto, unfolding(crate::specs::Refusals::trailer_number))]
 fn check_trailer(file: &[u8]) -> Result<(), Cause>
     ensures { number_in result ≡ trailer_number file.now }
 {
@@ -77,6 +79,7 @@ fn check_trailer(file: &[u8]) -> Result<(), Cause>
 }
 
 // What a record is refused for.
+#[tactic(auto, unfolding(crate::specs::Refusals::record_number))]
 fn check_record(sx: u32, sy: u32, f: Flow) -> Result<(), Cause>
     ensures { number_in result ≡ record_number sx sy f }
 {
@@ -97,7 +100,9 @@ fn check_records(file: &[u8], t: Trailer) -> Result<(), Refusal>
 {
     for f in 0..t.count {
         let at = (t.start as usize) + file::RECORD_SIZE * (f as usize);
-        check_record(t.sx, t.sy, file::flow_from(file, at)).map_err(|cause| cause.at(f))?;
+        if let Err(cause) = check_record(t.sx, t.sy, file::flow_from(file, at)) {
+            return Err(cause.at(f));
+        }
     }
     Ok(())
 }
@@ -123,6 +128,7 @@ impl PlanFile<'_> {
     }
 
     // Flow number f.
+    #[tactic(auto, using(crate::proofs::Ranges::flow_read))]
     pub fn flow(&self, f: u32) -> Flow
         requires { f < (trailer_of self.now).count }
         ensures { result ≡ flow_at (plan_of self.now) f }
@@ -136,7 +142,7 @@ impl PlanFile<'_> {
 pub fn plan_answer(file: &[u8]) -> Result<(), Refusal>
     ensures { told result ≡ plan_answer file.now }
 {
-    let _ = PlanFile::open(file)?;
+    PlanFile::open(file)?;
     Ok(())
 }
 
@@ -144,6 +150,8 @@ pub fn plan_answer(file: &[u8]) -> Result<(), Refusal>
 pub fn notes(file: &[u8]) -> &[u8]
     ensures { result.now ≡ notes_of file.now }
 {
-    let start = PlanFile::open(file).map_or(0, |plan| plan.trailer().start);
-    &file[..start as usize]
+    match PlanFile::open(file) {
+        Ok(plan) => &file[..plan.trailer().start as usize],
+        Err(_) => &[],
+    }
 }

@@ -9,26 +9,26 @@ use std::fmt;
 // What a call is refused for; each has its number.
 #[derive(Clone, Copy, Debug, PartialEq, Eq)]
 pub enum Cause {
-    FileLength,
-    Tag,
-    TorusSize,
-    FlowCount,
-    Start,
-    OffTorus,
-    NoRate,
-    StateShort,
-    NoState,
-    DeliveryShort,
-    LastClock,
-    NotInPlan,
-    QueueFull,
-    NoWindow,
-    TargetShort,
-    RecordsShort,
-    KeptRange,
-    TrialFull,
-    ReasonsShort,
-    BurstRange,
+    FileLength = 1,
+    Tag = 2,
+    TorusSize = 3,
+    FlowCount = 4,
+    Start = 5,
+    OffTorus = 6,
+    NoRate = 7,
+    StateShort = 8,
+    NoState = 9,
+    DeliveryShort = 10,
+    LastClock = 11,
+    NotInPlan = 12,
+    QueueFull = 13,
+    NoWindow = 14,
+    TargetShort = 15,
+    RecordsShort = 16,
+    KeptRange = 17,
+    TrialFull = 18,
+    ReasonsShort = 19,
+    BurstRange = 20,
 }
 
 // A cause with its place: the flow or the position that it names, and otherwise 0.
@@ -42,28 +42,7 @@ impl Cause {
     pub fn number(self) -> u32
         ensures { result ≡ cause_number self }
     {
-        match self {
-            Cause::FileLength => 1,
-            Cause::Tag => 2,
-            Cause::TorusSize => 3,
-            Cause::FlowCount => 4,
-            Cause::Start => 5,
-            Cause::OffTorus => 6,
-            Cause::NoRate => 7,
-            Cause::StateShort => 8,
-            Cause::NoState => 9,
-            Cause::DeliveryShort => 10,
-            Cause::LastClock => 11,
-            Cause::NotInPlan => 12,
-            Cause::QueueFull => 13,
-            Cause::NoWindow => 14,
-            Cause::TargetShort => 15,
-            Cause::RecordsShort => 16,
-            Cause::KeptRange => 17,
-            Cause::TrialFull => 18,
-            Cause::ReasonsShort => 19,
-            Cause::BurstRange => 20,
-        }
+        self as u32
     }
 
     // The refusal of this cause at a place.

@@ -1,30 +1,20 @@
 -- `notes`: an accepted file starts its records within the file.
-use mathlib.Core.Path.{sym, ◌∙◌}
+use mathlib.Core.Path.{sym}
 use native.Mathlib.Omega.{arith}
 use lib.Seq.{length-take-le}
 use Rattle.plan.specs.Notes.{notes_of}
-use Rattle.plan.proofs.Accepted.{Trailed, done_trailed}
+use Rattle.plan.proofs.Accepted.{done_trailed}
 use Rattle.plan.proofs.notes.Goals as goal
-use Rattle.plan.proofs.notes.Goals.{In-Done}
-
--- the file was accepted
-framed : (c : goal.In-Done) → Trailed c.args.file.now
-framed c = done_trailed _ _ (sym c.plan_answer.ensures ∙ c.in-Done.is)
-
-pub trailer_of-start-requires : goal.trailer_of-start-requires
-trailer_of-start-requires c = (framed c).long
 
 pub slice_bounds-result-end : goal.slice_bounds-result-end
 slice_bounds-result-end c =
-    let t = framed (goal.at.slice_bounds-result-end c).In-Done in
-    let e = c.trailer_of-start.ensures in
-    sym (length-take-le _ _ (rw e (omega arith)))
+    let t = done_trailed _ _ (sym c.in-Ok.ensures.answer) in
+    sym (length-take-le _ _ (rw (c.trailer.ensures.value, c.in-Ok.ensures.file) (omega (arith, t.long, t.frame.ends))))
 
-pub returns-in-Done : goal.returns-in-Done
+pub returns-in-Ok : goal.returns-in-Ok
 unfolding notes_of
-returns-in-Done c =
-    rw (← c.plan_answer.ensures, c.in-Done.is, c.trailer_of-start.ensures)
+returns-in-Ok c = rw (← c.in-Ok.ensures.answer, c.trailer.ensures.value, c.in-Ok.ensures.file)
 
-pub returns-in-Refused : goal.returns-in-Refused
+pub returns-in-Err : goal.returns-in-Err
 unfolding notes_of
-returns-in-Refused c = rw (← c.plan_answer.ensures, c.in-Refused.is)
+returns-in-Err c = rw (← c.in-Err.ensures.answer)

@@ -1,0 +1,2 @@
+-- The law of the tag.
+pub mod Tag

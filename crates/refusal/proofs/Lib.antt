@@ -1,0 +1,2 @@
+-- The law of the causes' numbers.
+pub mod Causes
