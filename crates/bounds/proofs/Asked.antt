@@ -3,19 +3,32 @@ use mathlib.Core.Bool.{Bool, true, false, cond}
 use mathlib.Core.List.{List}
 use mathlib.Core.Logic.{inl, inr}
 use mathlib.Core.Path.{◌≡◌, refl, sym}
-use Prim.Native.Nat.{ℕ, ◌<◌}
-use borrow.Author.Tests.{ltb-true}
+use Prim.Native.Nat.{ℕ, ◌<◌, ◌≤◌}
+use borrow.Author.Tests.{ltb-true, lt-ltb, le-ltb}
 use lib.Dec.{ltb}
 use lib.ListN.{length}
 use Rattle.laws.proofs.Cases.{test}
 use Rattle.refusal.specs.Answer.{Answer, Done, Refused}
-use Rattle.file.specs.declared.Trailer.{Trailer}
-use Rattle.file.specs.Layout.{trailer_of, plan_of}
+use Rattle.file.specs.Layout.{plan_of}
 use Rattle.plan.specs.Refusals.{refused_or, plan_answer}
 use Rattle.plan.proofs.Refusals.{refused_done}
 use Rattle.bounds.specs.Bounds.{asked}
-use Rattle.bounds.specs.Inner.{Opened, FlowInFile}
-use Rattle.bounds.proofs.Opened.{opened_count}
+
+-- the plan's refusal
+pub asked_first : (file : List ℕ) (f n place : ℕ) (a : Answer) → Refused n place ≡ plan_answer file → Refused n place ≡ asked file f a
+unfolding asked
+asked_first file f n place a e = rw (← e)
+
+-- no flow of an accepted file
+pub asked_beyond : (file : List ℕ) (f : ℕ) (a : Answer) → Done 0 ≡ plan_answer file → length (plan_of file).flows ≤ f
+    → Refused 12 0 ≡ asked file f a
+unfolding asked
+asked_beyond file f a e h = rw (← e, le-ltb f _ h)
+
+-- one of them
+pub asked_own : (file : List ℕ) (f : ℕ) (a : Answer) → Done 0 ≡ plan_answer file → f < length (plan_of file).flows → a ≡ asked file f a
+unfolding asked
+asked_own file f a e h = rw (← e, lt-ltb f _ h)
 
 -- the refusal of a plan or of a flow number does not depend on what would be answered
 refused_first : (plan : Answer) (b : Bool) (n place : ℕ) (a : Answer)
@@ -39,16 +52,11 @@ pub asked_done : (file : List ℕ) (f v : ℕ) → asked file f (Done 0) ≡ Don
 unfolding asked
 asked_done file f v e = go (plan_answer file) refl e
   where
-    go : (plan : Answer) → plan_answer file ≡ plan → refused_or plan (cond (ltb f (length (plan_of file).flows)) (Done 0) (Refused 12 0)) ≡ Done v → Known file f
+    go : (plan : Answer) → plan_answer file ≡ plan
+        → refused_or plan (cond (ltb f (length (plan_of file).flows)) (Done 0) (Refused 12 0)) ≡ Done v → Known file f
     go (Refused n place) p q = absurd (refused_done n place v q)
     go (Done w) p q =
         elim (test (ltb f (length (plan_of file).flows))) [
           | inl below ↦ record { value = w; done = p; below = ltb-true _ _ below; answers = λ a. rw (p, below) }
           | inr above ↦ absurd (refused_done 12 0 v (rw above at q))
         ]
-
--- with the trailer that was read
-pub known_flow : (file : List ℕ) (f : ℕ) (t : Trailer) → Known file f → t ≡ trailer_of file → FlowInFile file t f
-known_flow file f t k e =
-    let o : Opened file t = record { value = k.value; done = k.done; trailer = e } in
-    record { opened = o; below = rw (opened_count file t o) at k.below }

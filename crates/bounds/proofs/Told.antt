@@ -11,7 +11,9 @@ use lib.ListN.{length}
 use Rattle.laws.proofs.Cases.{test, and_true}
 use Rattle.flow.specs.declared.Flow.{Flow}
 use Rattle.flow.specs.Plan.{flow_at}
-use Rattle.refusal.specs.Answer.{Answer, Done, Refused}
+use Rattle.std.specs.Option.{ok_or}
+use Rattle.refusal.specs.declared.Cause.TheVariants.{NoWindow}
+use Rattle.refusal.specs.Answer.{Answer, Done, Refused, told_value}
 use Rattle.file.specs.Layout.{plan_of}
 use Rattle.plan.proofs.Refusals.{refused_done}
 use Rattle.window.specs.Window.{Window}
@@ -19,6 +21,11 @@ use Rattle.std.specs.Prelude.{Some, None}
 use Rattle.window.specs.Window.{window_of, burst_window_of}
 use Rattle.bounds.specs.Bounds.{asked, window_by, window_answer, is_burst, burst_answer, flight_bound_answer, flight_bound_of}
 use Rattle.bounds.proofs.Asked.{Known, asked_refused, asked_done}
+
+-- the window found, or 14 with the flow
+pub told_or : (f : ℕ) (w : Window) → told_value (ok_or w (record { cause = NoWindow; place = f })) ≡ window_by f w
+told_or f (Some T) = refl
+told_or f None = refl
 
 -- a call that isn't refused is on a known flow, and answers its own value
 asked_known : (file : List ℕ) (f v : ℕ) (a : Answer) → asked file f a ≡ Done v → Known file f

@@ -1,157 +1,144 @@
 // Bounds from a plan file: the window of a flow and of its bursts, and its flight bound. Rests on plan, turning, window and flight.
 #![tactic(auto)]
 
-ghost use Rattle.std.specs.Prelude.{◌≡◌, ◌+◌, ◌*◌, ◌≤◌, length};
+ghost use Rattle.std.specs.Prelude.{◌≡◌, ◌+◌, ◌<◌, ◌≤◌, IfOk};
 ghost use Rattle.flow.specs.Offsets.{port_of};
-ghost use Rattle.flow.specs.Plan.{most_burst, flow_at};
-ghost use Rattle.refusal.specs.Answer.{told_value};
-ghost use Rattle.file.specs.Layout.{plan_of};
-ghost use Rattle.turning.specs.Columns.{TurningIn};
+ghost use Rattle.flow.specs.Plan.{most_burst, most_flows, flow_at};
+ghost use Rattle.flow.specs.Ranges.{PlanOk};
+ghost use Rattle.refusal.specs.Answer.{Done, answer_with, told_value};
+ghost use Rattle.file.specs.Layout.{trailer_of, plan_of};
 ghost use Rattle.window.specs.Window.{window_of, burst_window_of};
-ghost use Rattle.window.specs.Rivals.{rival_words, RivalsAmong};
-ghost use Rattle.bounds.specs.Inner.{Opened, FlowInFile};
-ghost use Rattle.bounds.specs.Bounds.{window_answer, is_burst, burst_answer, flight_bound_answer, flight_bound_of};
+ghost use Rattle.window.specs.Rivals.{RivalsAmong};
+ghost use Rattle.bounds.specs.Bounds.{asked, window_answer, is_burst, burst_answer, flight_bound_answer, flight_bound_of};
 
-use file::Trailer;
 use flow::{Flow, Port};
 use plan::PlanFile;
 use refusal::{Cause, Refusal};
-use window::Kept;
+use std::marker::Model;
+use window::Rivals;
 
-// Flow number f of an accepted file.
-pub fn flow_at(file: &[u8], t: Trailer, f: u32) -> Flow
-    requires { FlowInFile file.now t f }
-    ensures { result ≡ flow_at (plan_of file.now) f }
-{
-    file::flow_from(file, (t.start as usize) + file::RECORD_SIZE * (f as usize))
+// An accepted plan file with its turning rows, found once: a word of bits for each column. Seen as the file's bytes.
+#[derive(Drop)]
+pub struct Bounds<'a> {
+    plan: &'a PlanFile<'a>,
+    columns: [u32; turning::COLUMNS],
 }
 
-// The turning rows of an accepted file, found once: a word of bits for each column.
-pub fn turning_rows(file: &[u8], t: Trailer) -> [u32; turning::COLUMNS]
-    requires { Opened file.now t }
-    ensures { TurningIn (plan_of file.now) result }
-{
-    let mut columns = [0u32; turning::COLUMNS];
-    let count = t.count;
-    for f in 0..count {
-        turning::note(&mut columns, flow_at(file, t, f));
+impl<'a> Model for Bounds<'a> {
+    ghost use Rattle.std.specs.Prelude.{List, ℕ};
+    ghost use Rattle.file.specs.Layout.{plan_of};
+    ghost use Rattle.turning.specs.Columns.{TurningIn};
+
+    ghost Value = { List ℕ };
+
+    ghost view = { λ b. b.plan.now };
+
+    ghost invariant = { λ b. TurningIn (plan_of b.plan.now) b.columns };
+}
+
+impl Bounds<'_> {
+    pub fn of<'a>(plan: &'a PlanFile<'a>) -> Bounds<'a>
+        ensures { result ≡ plan.now }
+    {
+        let mut columns = [0u32; turning::COLUMNS];
+        for f in 0..plan.trailer().count {
+            turning::note(&mut columns, plan.flow(f));
+        }
+        Bounds { plan, columns }
     }
-    columns
-}
 
-// Flow g, after the rivals of flow f among the flows before it.
-fn meet(
-    file: &[u8],
-    t: Trailer,
-    columns: &[u32],
-    own: Flow,
-    port: Port,
-    f: u32,
-    g: u32,
-    rivals: &mut [u32],
-    kept: Kept,
-) -> Kept
-    requires flow_in_file { (FlowInFile file.now t f) × (FlowInFile file.now t g) }
-    requires turning_in { TurningIn (plan_of file.now) columns.now }
-    requires own_value { (own ≡ flow_at (plan_of file.now) f) × (port ≡ port_of t.sx own) }
-    requires rivals_among { RivalsAmong (plan_of file.now) f g rivals.old kept }
-    ensures { RivalsAmong (plan_of file.now) f (g + 1) rivals.new result }
-{
-    if g == f {
-        return kept;
+    // Flow g, after the rivals of flow f among the flows before it.
+    fn meet<const N: usize>(&self, f: u32, own: Flow, port: Port, g: u32, rivals: &mut Rivals<N>)
+        requires flows { (f < (trailer_of self.now).count) × (g < (trailer_of self.now).count) }
+        requires room { ((trailer_of self.now).count ≤ N) × (N ≤ most_flows) }
+        requires own_value { (own ≡ flow_at (plan_of self.now) f) × (port ≡ port_of (plan_of self.now).sx own) }
+        requires rivals_among { RivalsAmong (plan_of self.now) f g rivals.old }
+        ensures { RivalsAmong (plan_of self.now) f (g + 1) rivals.new }
+    {
+        if g == f {
+            return;
+        }
+        let t = self.plan.trailer();
+        let other = self.plan.flow(g);
+        let word = self.columns[other.xd as usize];
+        rivals.keep(
+            other,
+            conflict::conflict_of(t.sx, t.sy, word, own, port, other),
+        );
     }
-    let other = flow_at(file, t, g);
-    let column = other.xd as usize;
-    let c = conflict::conflict_of(t.sx, t.sy, columns[column], own, port, other);
-    window::keep_rival(rivals, kept, other, c)
-}
 
-// The window of so many packets of flow f of an accepted file, with room for its rivals. They are found once, as long as their rates
-// leave some of the link.
-fn burst_in(
-    file: &[u8],
-    t: Trailer,
-    columns: &[u32],
-    f: u32,
-    rivals: &mut [u32],
-    packets: u32,
-) -> Option<u32>
-    requires flow_in_file { (FlowInFile file.now t f) × (rival_words * t.count ≤ length rivals.old) }
-    requires turning_in { TurningIn (plan_of file.now) columns.now }
-    requires le_packets { (1 ≤ packets) × (packets ≤ most_burst) }
-    ensures { result ≡ burst_window_of (plan_of file.now) f packets }
-{
-    let own = flow_at(file, t, f);
-    let port = own.port(t.sx);
-    let count = t.count;
-    let mut kept = Kept { count: 0, rates: 0 };
-    for g in 0..count {
-        kept = meet(file, t, columns, own, port, f, g, rivals, kept);
-        if kept.fills_link() {
-            return None;
+    // The window of so many packets of flow f, with room for its rivals. They are found once, as long as their rates leave some of the
+    // link.
+    fn burst_in<const N: usize>(&self, f: u32, packets: u32) -> Option<u32>
+        requires flow { f < (trailer_of self.now).count }
+        requires room { ((trailer_of self.now).count ≤ N) × (N ≤ most_flows) }
+        requires packets { (1 ≤ packets) × (packets ≤ most_burst) }
+        ensures { result ≡ burst_window_of (plan_of self.now) f packets }
+    {
+        let t = self.plan.trailer();
+        let own = self.plan.flow(f);
+        let port = own.port(t.sx);
+        let mut rivals = Rivals::<N>::new();
+        for g in 0..t.count {
+            self.meet(f, own, port, g, &mut rivals);
+            if rivals.fills_link() {
+                return None;
+            }
+        }
+        rivals.least_burst(packets)
+    }
+
+    // The window B of so many packets of flow f. Few flows need little room.
+    pub fn burst(&self, f: u32, packets: u32) -> Option<u32>
+        requires flow { f < (trailer_of self.now).count }
+        requires packets { (1 ≤ packets) × (packets ≤ most_burst) }
+        ensures { result ≡ burst_window_of (plan_of self.now) f packets }
+    {
+        if self.plan.trailer().count <= 64 {
+            self.burst_in::<64>(f, packets)
+        } else {
+            self.burst_in::<256>(f, packets)
         }
     }
-    window::least_burst(rivals, kept.count, packets)
-}
 
-// The window B of so many packets of flow f of an accepted file, by its turning rows. Few flows need little room.
-pub fn burst_of(file: &[u8], t: Trailer, columns: &[u32], f: u32, packets: u32) -> Option<u32>
-    requires flow_in_file { (FlowInFile file.now t f) × (TurningIn (plan_of file.now) columns.now) }
-    requires le_packets { (1 ≤ packets) × (packets ≤ most_burst) }
-    ensures { result ≡ burst_window_of (plan_of file.now) f packets }
-{
-    if t.count <= 64 {
-        let mut few = [0u32; window::RIVAL_WORDS * 64];
-        return burst_in(file, t, columns, f, &mut few, packets);
+    // The window T of flow f: that of one packet.
+    pub fn window(&self, f: u32) -> Option<u32>
+        requires { f < (trailer_of self.now).count }
+        ensures { result ≡ window_of (plan_of self.now) f }
+    {
+        self.burst(f, 1)
     }
-    let mut rivals = [0u32; window::MOST_RIVAL_WORDS];
-    burst_in(file, t, columns, f, &mut rivals, packets)
-}
 
-// The window T of flow f of an accepted file, with room for its rivals: that of one packet.
-fn window_in(file: &[u8], t: Trailer, columns: &[u32], f: u32, rivals: &mut [u32]) -> Option<u32>
-    requires flow_in_file { (FlowInFile file.now t f) × (rival_words * t.count ≤ length rivals.old) }
-    requires turning_in { TurningIn (plan_of file.now) columns.now }
-    ensures { result ≡ window_of (plan_of file.now) f }
-{
-    burst_in(file, t, columns, f, rivals, 1)
-}
-
-// The window T of flow f of an accepted file, by its turning rows. Few flows need little room.
-pub fn window_of(file: &[u8], t: Trailer, columns: &[u32], f: u32) -> Option<u32>
-    requires { (FlowInFile file.now t f) × (TurningIn (plan_of file.now) columns.now) }
-    ensures { result ≡ window_of (plan_of file.now) f }
-{
-    if t.count <= 64 {
-        let mut few = [0u32; window::RIVAL_WORDS * 64];
-        return window_in(file, t, columns, f, &mut few);
+    // The flight bound of flow f.
+    pub fn flight(&self, f: u32) -> u32
+        requires { f < (trailer_of self.now).count }
+        ensures { result ≡ flight_bound_of (plan_of self.now) f }
+    {
+        let t = self.plan.trailer();
+        let flow = self.plan.flow(f);
+        flight::flight_bound(t.sx, t.sy, self.columns[flow.xd as usize], flow)
     }
-    let mut rivals = [0u32; window::MOST_RIVAL_WORDS];
-    window_in(file, t, columns, f, &mut rivals)
 }
 
-// The flight bound of flow f of an accepted file, by its turning rows.
-pub fn flight_bound_of(file: &[u8], t: Trailer, columns: &[u32], f: u32) -> u32
-    requires { (FlowInFile file.now t f) × (TurningIn (plan_of file.now) columns.now) }
-    ensures { result ≡ flight_bound_of (plan_of file.now) f }
+// The plan file that a call on flow f asks, or the call's refusal.
+#[tactic(auto, using(crate::proofs::Asked::asked_first, crate::proofs::Asked::asked_beyond, crate::proofs::Asked::asked_own, plan::proofs::Ranges::plan_count))]
+fn ask(file: &[u8], f: u32) -> Result<PlanFile<'_>, Refusal>
+    ensures answer { answer_with (λ plan. 0) result ≡ asked file.now f (Done 0) }
+    ensures plan { IfOk result (λ plan. (plan ≡ file.now) × ((f < (trailer_of plan).count) × PlanOk (plan_of plan))) }
 {
-    let flow = flow_at(file, t, f);
-    let column = flow.xd as usize;
-    flight::flight_bound(t.sx, t.sy, columns[column], flow)
+    let plan = PlanFile::open(file)?;
+    if plan.trailer().count <= f {
+        return Err(Cause::NotInPlan.into());
+    }
+    Ok(plan)
 }
 
-// Flow f's window call on an accepted file.
 // The window call: T, or a refusal.
 pub fn window(file: &[u8], f: u32) -> Result<u32, Refusal>
     ensures { told_value result ≡ window_answer file.now f }
 {
-    let plan = PlanFile::open(file)?;
-    let t = plan.trailer();
-    if t.count <= f {
-        return Err(Cause::NotInPlan.into());
-    }
-    let columns = turning_rows(file, t);
-    window_of(file, t, &columns, f).ok_or(Cause::NoWindow.at(f))
+    let plan = ask(file, f)?;
+    Bounds::of(&plan).window(f).ok_or(Cause::NoWindow.at(f))
 }
 
 // A burst has 1 to σ packets.
@@ -165,27 +152,19 @@ fn is_burst(flow: Flow, packets: u32) -> bool
 pub fn burst(file: &[u8], f: u32, packets: u32) -> Result<u32, Refusal>
     ensures { told_value result ≡ burst_answer file.now f packets }
 {
-    let plan = PlanFile::open(file)?;
-    let t = plan.trailer();
-    if t.count <= f {
-        return Err(Cause::NotInPlan.into());
-    }
+    let plan = ask(file, f)?;
     if !is_burst(plan.flow(f), packets) {
         return Err(Cause::BurstRange.into());
     }
-    let columns = turning_rows(file, t);
-    burst_of(file, t, &columns, f, packets).ok_or(Cause::NoWindow.at(f))
+    Bounds::of(&plan)
+        .burst(f, packets)
+        .ok_or(Cause::NoWindow.at(f))
 }
 
 // The flight call: the flight bound, or a refusal.
 pub fn flight_bound(file: &[u8], f: u32) -> Result<u32, Refusal>
     ensures { told_value result ≡ flight_bound_answer file.now f }
 {
-    let plan = PlanFile::open(file)?;
-    let t = plan.trailer();
-    if t.count <= f {
-        return Err(Cause::NotInPlan.into());
-    }
-    let columns = turning_rows(file, t);
-    Ok(flight_bound_of(file, t, &columns, f))
+    let plan = ask(file, f)?;
+    Ok(Bounds::of(&plan).flight(f))
 }

@@ -1,6 +1,7 @@
 -- Laws of spreads: a spread is small. Rests on specs/Conflict and the laws of turning rows and offsets.
 use mathlib.Core.Bool.{Bool, true, false, cond, ◌&&◌}
 use mathlib.Core.Logic.{inl, inr}
+use mathlib.Core.Path.{◌≡◌}
 use Prim.Native.Nat.{ℕ, ◌-◌, ◌≤◌, ◌<◌}
 use native.Mathlib.Nat.{mul-le-mul}
 use native.Mathlib.Omega.{arith}
@@ -12,15 +13,21 @@ use Rattle.flow.specs.Plan.{Plan, most_size}
 use Rattle.flow.specs.Offsets.{ΔX, ΔY, same_client}
 use Rattle.turning.specs.Turning.{is_turning}
 use Rattle.turning.proofs.Turning.{south_most}
-use Rattle.conflict.specs.Conflict.{Conflict}
 use Rattle.std.specs.Prelude.{Some, None}
-use Rattle.conflict.specs.Conflict.{rows_to, columns_to, laps, conflict_east, conflict_south, conflict_by, conflict}
+use Rattle.conflict.specs.Conflict.{Conflict, rows_to, columns_to, laps, conflict_east, conflict_south, conflict_by, conflict}
 use Rattle.conflict.specs.Inner.{Pair, most_spread}
 
 -- the conflict names no larger spread
 pub data SpreadMost : Conflict → Type 0 where
   none : SpreadMost None
   some : {j : ℕ} → j ≤ most_spread → SpreadMost (Some j)
+
+pub spread_at : (c : Conflict) (j : ℕ) → SpreadMost c → c ≡ Some j → j ≤ most_spread
+spread_at (Some i) j (some most) e = let same : i ≡ j = cc in omega arith
+spread_at None j none e = absurd (never j e)
+  where
+    never : (j : ℕ) → None ≡ Some j → ⊥
+    never j e = cc
 
 -- at most all rows of the torus, a lap round the row for each
 pub laps_most : (sx sy : ℕ) → sx ≤ most_size → sy ≤ most_size → (turns : ℕ → Bool) (g : Flow) (r : ℕ) → r ≤ sy → laps sx sy turns g r ≤ most_spread
@@ -32,7 +39,7 @@ either true h k = h
 either false h k = k
 
 module _ (sx sy : ℕ) (f g : Flow) (h : Pair sx sy f g) where
-  pub rows_below : rows_to sy f g < sy
+  rows_below : rows_to sy f g < sy
   rows_below = offset_below sy g.ys f.ys h.other.ys_on h.own.ys_on
 
   module _ (turns : ℕ → Bool) where

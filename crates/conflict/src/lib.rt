@@ -11,6 +11,7 @@ ghost use Rattle.conflict.specs.Inner.{Pair};
 use flow::{Flow, Port};
 
 // A lap round the row for each row of the word among the first n south of g's source.
+#[tactic(auto, using(crate::proofs::Spread::laps_most))]
 fn laps(sx: u32, sy: u32, word: u32, g: Flow, n: u32) -> u32
     requires { (sx ≤ most_size) × ((sy ≤ most_size) × ((word < 2 ^ sy) × ((g.ys < sy) × (n ≤ sy)))) }
     ensures { result ≡ laps sx sy (is_set word) g n }
@@ -19,39 +20,38 @@ fn laps(sx: u32, sy: u32, word: u32, g: Flow, n: u32) -> u32
 }
 
 // With what spread J the two conflict, if they do: f's port is E and g's client is another. The word has the rows that turn for g's destination column.
+#[tactic(auto, using(std::proofs::lemmas::Bool::Decides::nat_tests, torus::proofs::Axis::offset_below), unfolding(crate::specs::Conflict::conflict_east))]
 fn conflict_east(sx: u32, sy: u32, word: u32, f: Flow, g: Flow) -> Option<u32>
     requires { (Pair sx sy f g) × (word < 2 ^ sy) }
     ensures { result ≡ conflict_east sx sy (is_set word) f g }
 {
     let rows = torus::offset(sy, g.ys, f.ys);
     if rows == 0 {
-        let conflicts = 1 <= torus::offset(sx, g.xs, f.xs) && torus::on_way(sx, g.xs, f.xs, g.xd);
-        return if conflicts { Some(0) } else { None };
+        let passes = 1 <= torus::offset(sx, g.xs, f.xs) && torus::on_way(sx, g.xs, f.xs, g.xd);
+        return passes.then_some(0);
     }
-    let on_way = torus::on_way(sy, g.ys, f.ys, g.yd);
-    let row = if on_way { f.ys } else { turning::NO_ROW };
-    if turning::has_row(word, row) {
-        return Some(laps(sx, sy, word, g, rows - 1));
+    if torus::on_way(sy, g.ys, f.ys, g.yd) && turning::has_row(word, f.ys) {
+        Some(laps(sx, sy, word, g, rows - 1))
+    } else {
+        None
     }
-    None
 }
 
 // f's port is S and g's client is another.
+#[tactic(auto, using(std::proofs::lemmas::Bool::Decides::nat_tests, torus::proofs::Axis::offset_below), unfolding(crate::specs::Conflict::conflict_south))]
 fn conflict_south(sx: u32, sy: u32, word: u32, f: Flow, g: Flow) -> Option<u32>
     requires { (Pair sx sy f g) × (word < 2 ^ sy) }
     ensures { result ≡ conflict_south sx sy (is_set word) f g }
 {
-    if g.xd != f.xs {
-        return None;
+    if g.xd == f.xs && torus::on_way(sy, g.ys, f.ys, g.yd) {
+        Some(laps(sx, sy, word, g, torus::offset(sy, g.ys, f.ys)))
+    } else {
+        None
     }
-    if torus::on_way(sy, g.ys, f.ys, g.yd) {
-        let rows = torus::offset(sy, g.ys, f.ys);
-        return Some(laps(sx, sy, word, g, rows));
-    }
-    None
 }
 
 // How g, a flow other than f, conflicts with f at f's source, by f's port and the rows that turn for g's destination column.
+#[tactic(auto, using(std::proofs::lemmas::Bool::Decides::nat_tests), unfolding(crate::specs::Conflict::conflict_by))]
 pub fn conflict_of(sx: u32, sy: u32, word: u32, f: Flow, port: Port, g: Flow) -> Option<u32>
     requires pair { (Pair sx sy f g) × (word < 2 ^ sy) }
     requires port_value { port ≡ port_of sx f }

@@ -1,11 +1,10 @@
--- No window grows: a conflict by the turning rows is no wider than 01's, so neither is I(t). Rests on Least and the laws of turning rows.
-use mathlib.Core.Bool.{Bool, true, false, cond, ◌&&◌, false≢true}
+-- No window grows: a conflict by the turning rows is no wider than 01's, so neither is I(t). Rests on Bursts and the laws of turning rows.
+use mathlib.Core.Bool.{Bool, true, false, cond, ◌&&◌}
 use mathlib.Core.Logic.{inl, inr}
-use mathlib.Core.Path.{◌≡◌, refl, sym, ◌∙◌}
-use Prim.Native.Nat.{ℕ, zero, suc, ◌+◌, ◌-◌, ◌*◌, ◌≤◌, ◌<◌}
-use native.Mathlib.Nat.{eq-or-lt_of_le, mul-le-mul_right}
+use mathlib.Core.Path.{◌∙◌}
+use Prim.Native.Nat.{ℕ, ◌+◌, ◌-◌, ◌*◌, ◌≤◌}
+use native.Mathlib.Nat.{mul-le-mul_right}
 use native.Mathlib.Omega.{arith}
-use borrow.Author.Tests.{lt-ltb}
 use lib.Dec.{ltb, leb, eqb}
 use lib.ListN.{length}
 use Rattle.laws.proofs.Cases.{test}
@@ -16,12 +15,11 @@ use Rattle.flow.specs.Plan.{Plan, flow_at}
 use Rattle.bucket.proofs.Curve.{curve_span}
 use Rattle.turning.specs.Turning.{is_turning}
 use Rattle.turning.proofs.Turning.{south_most}
-use Rattle.conflict.specs.Conflict.{Conflict}
 use Rattle.std.specs.Prelude.{Some, None}
-use Rattle.conflict.specs.Conflict.{rows_to, columns_to, laps, conflict_east, conflict_south, conflict_by, conflict}
-use Rattle.window.specs.Window.{share, share_of, interference, least_from, most_window, window_of}
+use Rattle.conflict.specs.Conflict.{Conflict, rows_to, columns_to, laps, conflict_east, conflict_south, conflict_by, conflict}
+use Rattle.window.specs.Window.{share, share_of, interference, most_window, window_of}
 use Rattle.window.specs.Before.{east_before, south_before, conflict_before, share_before, interference_before, window_before, NoWindowGrows}
-use Rattle.window.proofs.Least.{at_least}
+use Rattle.window.proofs.Bursts.{at_least, least_most, least_one}
 
 -- no conflict where there was none, and no larger spread
 data Narrower : Conflict → Conflict → Type 0 where
@@ -82,21 +80,9 @@ interference_less : (p : Plan) (f t : ℕ) → interference p f t ≤ interferen
 unfolding interference interference_before
 interference_less p f t = sum_mono (share_of p f t) (share_before p f t) (length p.flows) (λ g l. flow_less p f t g)
 
--- the least window is at most any window of its range
-least_most : (I : ℕ → ℕ) (n s t : ℕ) → s ≤ t → t < s + n → I t < t → (T : ℕ) × ((least_from I n s ≡ Some T) × (T ≤ t))
-unfolding least_from
-least_most I zero s t l m h = absurd (omega arith)
-least_most I (suc n) s t l m h =
-    elim (test (ltb (I s) s)) [
-      | inl e ↦ rw e (s, (refl, l))
-      | inr e ↦ elim (eq-or-lt_of_le l) [
-        | inl same ↦ absurd (false≢true (sym e ∙ rw same (lt-ltb (I t) t h)))
-        | inr after ↦ rw e (least_most I n (s + 1) t (omega arith) (omega arith) h)
-      ]
-    ]
-
 pub no_window_grows : NoWindowGrows
 unfolding window_of window_before
 no_window_grows p f before e =
-    let old = at_least (interference_before p f) most_window 1 before e in
-    least_most (interference p f) most_window 1 before old.from old.to (omega (arith, old.free, interference_less p f before))
+    let old = at_least (interference_before p f) 1 most_window 1 before (least_one (interference_before p f) ∙ e) in
+    rw (← (least_one (interference p f)))
+    (least_most (interference p f) 1 most_window 1 before old.from old.to (omega (arith, old.free, interference_less p f before)))

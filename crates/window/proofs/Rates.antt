@@ -1,13 +1,15 @@
--- Rates that fill the link leave no window: a flow's rate is no more than what it may send in a cycle. Rests on the curve's pace.
+-- Rates that fill the link leave no window: a rival's rate is no more than what it may send in a cycle. Rests on the curve's pace.
+use mathlib.Core.List.{List, [], ◌∷◌}
 use Prim.Native.Nat.{ℕ, ◌+◌, ◌-◌, ◌*◌, ◌/◌, ◌≤◌}
-use native.Mathlib.Nat.{le_trans, div-mul-le_self}
+use native.Mathlib.Nat.{le_trans, div-mul-le_self, div-le_self}
 use native.Mathlib.Nat.{mul-le-mul_left, mul-le-mul_right, le_of_mul-le-mul_left, mul_left_comm, mul_comm, add-mul}
 use native.Mathlib.Omega.{arith}
-use Rattle.flow.specs.declared.Flow.{Flow}
+use lib.ListN.{length}
+use Rattle.std.proofs.lemmas.List.Elements.{All-tail}
+use Rattle.std.proofs.lemmas.List.Sums.{sum_by-cons}
 use Rattle.bucket.proofs.Curve.{curve_pace}
-use Rattle.std.specs.Prelude.{Some}
-use Rattle.window.specs.Window.{share}
-use Rattle.window.specs.Rivals.{whole_link}
+use Rattle.window.specs.declared.Rival.{Rival}
+use Rattle.window.specs.Rivals.{RivalOk, AllOk, rival_share, demand_of, whole_link, rate_of, rates_of}
 
 -- r parts of M for every P parts of c
 paced : (r P c t M : ℕ) → t ≤ c * P → r * P ≤ M → r * t ≤ M * c
@@ -15,24 +17,32 @@ paced r P c t M span part =
     rw (mul_comm M c) (le_trans (mul-le-mul_left r span) (rw mul_left_comm (mul-le-mul_left c part)))
 
 -- the rate of a rival, in t cycles, is no more than its share of them
-flow_paces : (g : Flow) (t j : ℕ) → 1 ≤ g.burst → 1 ≤ g.period → 1 ≤ t → (whole_link / g.period) * t ≤ whole_link * share g t (Some j)
-unfolding share
-flow_paces g t j burst period h =
-    let pace = curve_pace g.burst g.period (t - 1 + j) burst period in
-    paced (whole_link / g.period) g.period _ t whole_link (omega arith) (div-mul-le_self whole_link g.period)
+rival_paces : (r : Rival) (t : ℕ) → RivalOk r → 1 ≤ t → rate_of r * t ≤ whole_link * rival_share t r
+unfolding rival_share
+rival_paces r t ok h =
+    let pace = curve_pace r.burst r.period (t - 1 + r.spread) ok.burst_least ok.period_least in
+    paced (whole_link / r.period) r.period _ t whole_link (omega arith) (div-mul-le_self whole_link r.period)
 
--- rates that are no more than a demand, with a rival more
-pub pace_more : (rates demand : ℕ) (g : Flow) (t j : ℕ) → 1 ≤ g.burst → 1 ≤ g.period → 1 ≤ t → rates * t ≤ whole_link * demand
-    → (rates + whole_link / g.period) * t ≤ whole_link * (demand + share g t (Some j))
-pace_more rates demand g t j burst period h before =
-    omega (
+rates_pace : (rivals : List Rival) (t : ℕ) → AllOk rivals → 1 ≤ t → rates_of rivals * t ≤ whole_link * demand_of rivals t
+unfolding rates_of demand_of
+rates_pace [] t ok h = omega arith
+rates_pace (r ∷ rs) t ok h =
+    let here : RivalOk r = ok 0 r (omega arith) in
+    rw (sum_by-cons rate_of r rs, sum_by-cons (rival_share t) r rs)
+    (omega (
       arith,
-      before,
-      flow_paces g t j burst period h,
-      add-mul rates (whole_link / g.period) t,
-    )
+      rival_paces r t here h,
+      rates_pace rs t (All-tail RivalOk r rs ok) h,
+      add-mul (rate_of r) (rates_of rs) t,
+    ))
+
+-- each is the whole link at most
+pub rates_most : (rivals : List Rival) → rates_of rivals ≤ whole_link * length rivals
+unfolding rates_of
+rates_most [] = omega arith
+rates_most (r ∷ rs) = omega (arith, sum_by-cons rate_of r rs, div-le_self whole_link r.period, rates_most rs)
 
 -- rates that fill the link leave no window
-pub filled : (rates t demand : ℕ) → rates * t ≤ whole_link * demand → whole_link ≤ rates → t ≤ demand
-filled rates t demand paces full =
-    le_of_mul-le-mul_left {k = whole_link} (le_trans (mul-le-mul_right t full) paces) (omega arith)
+pub filled : (rivals : List Rival) (t : ℕ) → AllOk rivals → 1 ≤ t → whole_link ≤ rates_of rivals → t ≤ demand_of rivals t
+filled rivals t ok h full =
+    le_of_mul-le-mul_left {k = whole_link} (le_trans (mul-le-mul_right t full) (rates_pace rivals t ok h)) (omega arith)

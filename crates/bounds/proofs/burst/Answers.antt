@@ -1,69 +1,52 @@
 -- `burst`: the refusal, or 20, or the window found for packets of a known flow, or 14.
-use mathlib.Core.Bool.{true}
 use mathlib.Core.Path.{◌≡◌, sym, ◌∙◌}
-use Prim.Native.Nat.{◌≤◌}
-use native.Mathlib.Omega.{arith}
-use Rattle.flow.specs.declared.Flow.{Flow}
-use Rattle.flow.specs.Plan.{most_burst, flow_at}
-use Rattle.file.specs.Layout.{plan_of}
-use Rattle.plan.proofs.Accepted.{done_trailed}
+use Rattle.std.proofs.lemmas.Result.{err_from_is_err_and}
 use Rattle.bounds.specs.Bounds.{is_burst, burst_answer}
-use Rattle.bounds.specs.Inner.{FlowInFile}
+use native.Mathlib.Omega.{arith}
+use Rattle.flow.specs.Plan.{flow_at}
+use Rattle.file.specs.Layout.{plan_of}
+use Rattle.window.specs.Window.{burst_window_of}
 use Rattle.bounds.proofs.Opened.{flow_fits_lem}
-use Rattle.bounds.proofs.Asked.{Known, asked_refused, asked_done, known_flow}
-use Rattle.bounds.proofs.Told.{burst_range}
+use Rattle.bounds.proofs.Told.{told_or, burst_range}
+use Rattle.bounds.proofs.Asked.{asked_refused, asked_done}
 use Rattle.bounds.proofs.burst.Goals as goal
-use Rattle.bounds.proofs.burst.Goals.{After-trailer_of-t, Else-not-is_burst, In-Done}
+use Rattle.bounds.proofs.burst.Goals.{After-is_burst}
 
-known : (c : goal.In-Done) → Known c.args.file.now c.args.f
-known c = asked_done _ _ _ (sym c.ask.ensures ∙ c.in-Done.is)
+pub returns-in_err-plan : goal.returns-in_err-plan
+unfolding burst_answer
+returns-in_err-plan c =
+    let p = err_from_is_err_and c.from_residual.result c.from_residual.ensures.1 in
+    rw (p.1, p.2) (sym (asked_refused _ _ _ _ _ (sym c.in_err-plan.ensures.answer)))
 
-pub trailer_of-t-requires : goal.trailer_of-t-requires
-trailer_of-t-requires c = (done_trailed _ _ (known c).done).long
-
--- the flow, with the trailer read
-read : (c : goal.After-trailer_of-t) → FlowInFile c.args.file.now c.trailer_of-t.result c.args.f
-read c = known_flow _ _ _ (known (goal.at.After-trailer_of-t c).In-Done) c.trailer_of-t.ensures
+-- whether the packets are a burst of the flow
+held : (c : After-is_burst) → c.is_burst.result ≡ is_burst (flow_at (plan_of c.args.file.now) c.args.f) c.args.packets
+held c = rw (c.is_burst.ensures, c.flow.ensures, c.in_ok-plan.ensures.plan.0)
 
 pub returns-then-not-is_burst : goal.returns-then-not-is_burst
 unfolding burst_answer
 returns-then-not-is_burst c =
-    rw (rw c.flow_at.ensures at (sym c.is_burst.ensures ∙ c.if-not-is_burst.true))
-    (sym ((known (goal.at.returns-then-not-is_burst c).In-Done).answers _))
+    rw (c.into.ensures, ← (held (goal.at.returns-then-not-is_burst c).After-is_burst), c.if-not-is_burst.true)
+    (sym ((asked_done _ _ _ (sym c.in_ok-plan.ensures.answer)).answers _))
 
--- as many packets as a burst may have
-module _ (c : goal.Else-not-is_burst) where
-  abbrev own : Flow
-  own = flow_at (plan_of c.args.file.now) c.args.f
+pub burst-requires-clause-packets : goal.burst-requires-clause-packets
+burst-requires-clause-packets c =
+    let known = c.in_ok-plan.ensures.plan.1 in
+    let fits = flow_fits_lem _ known.1 _ known.0 in
+    let own = flow_at (plan_of c.in_ok-plan.plan) c.args.f in
+    let range = burst_range own c.args.packets (rw c.flow.ensures at (sym c.is_burst.ensures ∙ c.if-not-is_burst.false)) in
+    (range.0, omega (arith, range.1, fits.burst_most))
 
-  held : is_burst own c.args.packets ≡ true
-  held = rw c.flow_at.ensures at (sym c.is_burst.ensures ∙ c.if-not-is_burst.false)
-
-  packets_fit : (1 ≤ c.args.packets) × (c.args.packets ≤ most_burst)
-  packets_fit =
-      let range = burst_range own c.args.packets held in
-      let fits = flow_fits_lem _ _ _ (read (goal.at.Else-not-is_burst c).After-trailer_of-t) (λ i. omega (arith, c.type_inv.file i)) in
-      (range.0, omega (arith, range.1, fits.burst_most))
-
-pub burst_of-requires : goal.burst_of-requires
-burst_of-requires c =
-    record {
-      flow_in_file = (read (goal.at.burst_of-requires c).After-trailer_of-t, c.turning_rows-columns.ensures);
-      le_packets = packets_fit (goal.at.burst_of-requires c).Else-not-is_burst;
-    }
-
-pub returns-in-Refused : goal.returns-in-Refused
+pub returns : goal.returns
 unfolding burst_answer
-returns-in-Refused c = sym (asked_refused _ _ _ _ _ (sym c.ask.ensures ∙ c.in-Refused.is))
-
-pub returns-else-not-is_burst : goal.returns-else-not-is_burst
-unfolding burst_answer
-returns-else-not-is_burst c =
-    rw (c.window_by.ensures, c.burst_of.ensures, held (goal.at.returns-else-not-is_burst c).Else-not-is_burst)
-    (sym ((known (goal.at.returns-else-not-is_burst c).In-Done).answers _))
-
-pub flow_at-requires : goal.flow_at-requires
-flow_at-requires c = read c
-
-pub turning_rows-columns-requires : goal.turning_rows-columns-requires
-turning_rows-columns-requires c = (read (goal.at.turning_rows-columns-requires c).After-trailer_of-t).opened
+returns c =
+    let own = told_or c.args.f (burst_window_of (plan_of c.args.file.now) c.args.f c.args.packets) in
+    rw (
+      c.ok_or.ensures.value,
+      c.at.ensures,
+      c.burst.ensures,
+      c.of.ensures,
+      c.in_ok-plan.ensures.plan.0,
+      ← (held (goal.at.returns c).After-is_burst),
+      c.if-not-is_burst.false,
+    )
+    (own ∙ sym ((asked_done _ _ _ (sym c.in_ok-plan.ensures.answer)).answers _))

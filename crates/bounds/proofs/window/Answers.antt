@@ -1,30 +1,22 @@
 -- `window`: the refusal, or the window found for a known flow, or 14.
 use mathlib.Core.Path.{sym, ◌∙◌}
-use Rattle.plan.proofs.Accepted.{done_trailed}
+use Rattle.std.proofs.lemmas.Result.{err_from_is_err_and}
 use Rattle.bounds.specs.Bounds.{window_answer}
-use Rattle.bounds.proofs.Asked.{Known, asked_refused, asked_done, known_flow}
+use Rattle.file.specs.Layout.{plan_of}
+use Rattle.window.specs.Window.{window_of}
+use Rattle.bounds.proofs.Told.{told_or}
+use Rattle.bounds.proofs.Asked.{asked_refused, asked_done}
 use Rattle.bounds.proofs.window.Goals as goal
-use Rattle.bounds.proofs.window.Goals.{In-Done}
 
-known : (c : goal.In-Done) → Known c.args.file.now c.args.f
-known c = asked_done _ _ _ (sym c.ask.ensures ∙ c.in-Done.is)
-
-pub trailer_of-t-requires : goal.trailer_of-t-requires
-trailer_of-t-requires c = (done_trailed _ _ (known c).done).long
-
-pub turning_rows-columns-requires : goal.turning_rows-columns-requires
-turning_rows-columns-requires c = (known_flow _ _ _ (known (goal.at.turning_rows-columns-requires c).In-Done) c.trailer_of-t.ensures).opened
-
-pub window_of-requires : goal.window_of-requires
-window_of-requires c =
-    (known_flow _ _ _ (known (goal.at.window_of-requires c).In-Done) c.trailer_of-t.ensures, c.turning_rows-columns.ensures)
-
-pub returns-in-Refused : goal.returns-in-Refused
+pub returns-in_err-plan : goal.returns-in_err-plan
 unfolding window_answer
-returns-in-Refused c = sym (asked_refused _ _ _ _ _ (sym c.ask.ensures ∙ c.in-Refused.is))
+returns-in_err-plan c =
+    let p = err_from_is_err_and c.from_residual.result c.from_residual.ensures.1 in
+    rw (p.1, p.2) (sym (asked_refused _ _ _ _ _ (sym c.in_err-plan.ensures.answer)))
 
-pub returns-in-Done : goal.returns-in-Done
+pub returns : goal.returns
 unfolding window_answer
-returns-in-Done c =
-    rw (c.window_by.ensures, c.window_of.ensures)
-    (sym ((known (goal.at.returns-in-Done c).In-Done).answers _))
+returns c =
+    let own = told_or c.args.f (window_of (plan_of c.args.file.now) c.args.f) in
+    rw (c.ok_or.ensures.value, c.at.ensures, c.window.ensures, c.of.ensures, c.in_ok-plan.ensures.plan.0)
+    (own ∙ sym ((asked_done _ _ _ (sym c.in_ok-plan.ensures.answer)).answers _))
