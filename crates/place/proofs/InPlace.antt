@@ -1,11 +1,11 @@
 -- Laws of 01's conditions on a packet's place: what puts a packet in place, what it then has, and how small their sums are. Rests
 -- on the laws of offsets.
-use mathlib.Core.Bool.{true, false}
+use mathlib.Core.Bool.{true}
 use mathlib.Core.Path.{◌≡◌}
 use Prim.Native.Nat.{ℕ, ◌+◌, ◌-◌, ◌*◌, ◌≤◌, ◌<◌}
 use native.Mathlib.Nat.{mul-le-mul}
 use native.Mathlib.Omega.{arith}
-use borrow.Author.Tests.{le-leb, lt-leb, leb-true, eq-eqb, ne_eqb, eqb-true}
+use borrow.Author.Tests.{le-leb, leb-true, eq-eqb, ne_eqb, eqb-true}
 use lib.Dec.{leb}
 use Rattle.laws.proofs.Cases.{and_true}
 use Rattle.torus.specs.Axis.{offset, lap}
@@ -16,19 +16,10 @@ use Rattle.flow.specs.Plan.{most_size}
 use Rattle.flow.specs.Ranges.{FlowOk}
 use Rattle.place.specs.Place.{Place, W, N}
 use Rattle.place.specs.InPlace.{is_in_place, in_north, in_first_row, in_later_row, rows_done}
-use Rattle.place.specs.Inner.{OnColumn}
 
--- ΔX and D×Sx for at most 16 deflections
-pub small : (sx sy : ℕ) (f : Flow) (dx x d : ℕ) → OnColumn sx sy f dx x → d ≤ most_size → (dx < most_size) × (d * sx ≤ most_size * most_size)
-small sx sy f dx x d on h =
-    let near = offset_below sx f.xs f.xd on.flow_ok.xs_on on.flow_ok.xd_on in
-    (omega (arith, on.offset), mul-le-mul h on.sx_most)
-
--- no packet is in a register in the cycle of its entry
-pub too_early : (sx sy : ℕ) (f : Flow) (place : Place) (d e : ℕ) → e < 1 → false ≡ is_in_place sx sy f place d e
-unfolding is_in_place
-too_early sx sy f (W x y) d e h = rw (lt-leb 1 e h)
-too_early sx sy f (N x y) d e h = rw (lt-leb 1 e h)
+-- D×Sx for at most 16 deflections
+pub rounds_most : (d sx : ℕ) → d ≤ most_size → sx ≤ most_size → d * sx ≤ most_size * most_size
+rounds_most d sx h k = mul-le-mul h k
 
 -- what puts a packet in place, e cycles after its entry
 module _ (sx sy : ℕ) (f : Flow) (x y D e : ℕ) where

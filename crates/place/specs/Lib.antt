@@ -2,4 +2,3 @@
 pub mod Place
 pub mod Input
 pub mod InPlace
-pub mod Inner

@@ -9,7 +9,7 @@ ghost use Rattle.state.specs.Read.{sx_in, sy_in, count_in};
 ghost use Rattle.state.specs.Forms.{is_placed, contents_fit, register_fits, cell_fits};
 ghost use Rattle.state.specs.Facts.{FlowsFit};
 
-use place::Input;
+use place::{Course, Input};
 use state::Packet;
 use std::marker::Model;
 
@@ -61,20 +61,16 @@ impl<'a> FlowWords<'a> {
         requires router { (x < sx_in self.now) × (y < sy_in self.now) }
         ensures { result ≡ is_placed self.now (place_of input x y) (flow_place packet.flow) packet.entry packet.deflections }
     {
-        let flow = packet.flow as usize;
+        let f = packet.flow as usize;
+        let course = Course {
+            sx: self.words[state::SX],
+            sy: self.words[state::SY],
+            flow: state::flow_in(self.words, state::flow_place(f)),
+            dx: u32::from(self.dxs[f]),
+        };
         let clock = self.words[state::CLOCK];
         packet.entry < clock
-            && place::in_place(
-                self.words[state::SX],
-                self.words[state::SY],
-                state::flow_in(self.words, state::flow_place(flow)),
-                u32::from(self.dxs[flow]),
-                input,
-                x,
-                y,
-                packet.deflections,
-                clock - packet.entry,
-            )
+            && course.in_place(input, x, y, packet.deflections, clock - packet.entry)
     }
 
     // The packet of a register is that of a state.
