@@ -4,5 +4,5 @@ use Rattle.writing.proofs.put_file.Goals as goal
 
 pub returns : goal.returns
 returns c =
-    rw (c.put_trailer.ensures, c.put_records.ensures, c.put_notes.ensures)
-    (file_sets c.args.state.now c.args.notes.now c.args.target.now c.requires.state_bound.1)
+    rw (c.put_trailer.ensures, c.put_records.ensures, c.put.ensures, c.flows-count.ensures.value, c.sx.ensures.value, c.sy.ensures.value)
+    (file_sets c.args.state.now c.args.notes.now c.args.target.now c.requires.1)

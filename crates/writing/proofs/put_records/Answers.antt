@@ -8,46 +8,35 @@ use Rattle.file.specs.Layout.{record_size}
 use Rattle.plan.specs.Written.{record_bytes}
 use Rattle.state.specs.Layout.{flow_place}
 use Rattle.state.specs.Read.{count_in, flow_in}
+use Rattle.state.proofs.View.{view_plan, view_flow}
 use Rattle.writing.proofs.Flows.{small_flow, record_length}
 use Rattle.writing.proofs.put_records.Goals as goal
+use Rattle.writing.proofs.put_records.Goals.{After-flow}
 
-pub flow_place-requires : goal.flow_place-requires
-flow_place-requires c =
-    let pre = c.requires.state_facts in
-    omega (arith, pre.0.header.count_most, pre.1)
+below : (c : goal.After-flow) → c.loop-f.f < count_in c.args.state.now
+below c = omega arith
 
-pub flow_in-requires : goal.flow_in-requires
-flow_in-requires c =
-    let pre = c.requires.state_facts in
-    rw c.flow_place.ensures (omega (arith, pre.0.long, pre.1))
+-- the flow that was read
+flow : (c : goal.After-flow) → c.flow.result ≡ flow_in c.args.state.now (flow_place c.loop-f.f)
+flow c = c.flow.ensures.value ∙ rw view_plan (view_flow c.args.state.now c.loop-f.f (below c))
 
-pub put_record-requires : goal.put_record-requires
-put_record-requires c =
-    let below : c.loop-f.f < count_in c.args.state.now = omega (arith, c.requires.state_facts.1) in record {
-      record_size_in_bounds = omega arith;
-      flow_ok = rw (c.flow_in.ensures, c.flow_place.ensures) (small_flow c.args.state.now c.requires.state_facts.0 c.loop-f.f below);
-    }
+pub record_bytes-requires : goal.record_bytes-requires
+record_bytes-requires c =
+    let here = (goal.at.record_bytes-requires c).After-flow in
+    rw (flow here) (small_flow c.args.state.now c.flow.ensures.facts c.loop-f.f (below here))
+
+pub loop-f-init : goal.loop-f-init
+loop-f-init c = (refl, refl)
 
 pub loop-f-preserved : goal.loop-f-preserved
 loop-f-preserved c =
     let l = c.loop-f in
     let a = c.args in
     let bytes : ℕ → List ℕ = λ f. record_bytes (flow_in a.state.now (flow_place f)) in
-    let more = sets_more record_size l.f bytes (λ i. record_length _) a.target.now l.target a.start l.invariant.1.1 in (
-      omega arith,
-      (
-        c.put_record.auto.target ∙ l.invariant.1.0,
-        rw (c.put_record.ensures, c.flow_in.ensures, c.flow_place.ensures) more,
-      ),
-    )
+    let more = sets_more record_size l.f bytes (λ i. record_length _) a.target.now l.target a.start l.invariant.1 in
+    (c.put.auto.target ∙ l.invariant.0, rw (c.put.ensures, c.record_bytes.ensures, flow (goal.at.loop-f-preserved c).After-flow) more)
 
 pub returns : goal.returns
 returns c =
-    let e : c.loop-f.f ≡ c.args.count = omega arith in
-    rw e at c.loop-f.invariant.1.1
-
-pub loop-f-init : goal.loop-f-init
-loop-f-init c = (omega arith, (refl, refl))
-
-pub shape_of-target : goal.shape_of-target
-shape_of-target c = c.loop-f.invariant.1.0
+    let e : c.loop-f.f ≡ count_in c.args.state.now = omega arith in
+    rw e at c.loop-f.invariant.1

@@ -1,5 +1,4 @@
 use mathlib.Core.Path.{◌≡◌}
-use Prim.Native.Nat.{◌≤◌}
 use lib.ListN.{length}
 use lib.Seq.{sets}
 use Rattle.writing.specs.Parts.{records_in}
@@ -7,4 +6,4 @@ use Rattle.writing.proofs.put_records.Given as goal
 
 abbrev pub invariant-loop-f : goal.invariant-loop-f
 invariant-loop-f l =
-    (l.f ≤ l.count) × ((length l.target ≡ length l.initial.target) × (l.target ≡ sets l.initial.target l.start (records_in l.state l.f)))
+    (length l.target ≡ length l.initial.target) × (l.target ≡ sets l.initial.target l.start (records_in l.state l.f))

@@ -15,22 +15,27 @@ pub returns-then-count-start : goal.returns-then-count-start
 returns-then-count-start c =
     let a = c.args in
     let long : most_file < length (plan_bytes a.notes.now (plan_in a.state.now)) =
-    omega (arith, file_length a.state.now a.notes.now, c.requires.header.count_most)
+    omega (arith, file_length a.state.now a.notes.now, c.flows-count.ensures.facts.header.count_most)
     in
-    rw (lt-ltb _ _ long)
+    rw (lt-ltb _ _ long, c.into.ensures)
 
 -- the file to be written is not too long
 fits : (c : goal.Else-count-start) → let a = c.args in file_size a.notes.now a.state.now ≤ most_file
-fits c = omega (arith, c.requires.header.count_most)
+fits c = omega (arith, c.flows-count.ensures.facts.header.count_most)
 
 pub returns-then-target-size : goal.returns-then-target-size
 returns-then-target-size c =
     let a = c.args in
     let size = file_length a.state.now a.notes.now in
     let bytes = plan_bytes a.notes.now (plan_in a.state.now) in
-    rw (le-ltb most_file (length bytes) (omega (arith, fits (goal.at.returns-then-target-size c).Else-count-start)), lt-ltb (length a.target.now) (length bytes) (omega arith))
+    rw (
+      le-ltb most_file (length bytes) (omega (arith, fits (goal.at.returns-then-target-size c).Else-count-start)),
+      lt-ltb (length a.target.now) (length bytes) (omega arith),
+      c.into-then-target-size.ensures,
+    )
 
 pub returns : goal.returns
 returns c =
     let a = c.args in
-    file_outcome a.state.now a.notes.now a.target.now _ (fits (goal.at.returns c).Else-count-start) c.if-target-size.false c.put_file.ensures
+    rw c.flows-count.ensures.value
+    (file_outcome a.state.now a.notes.now a.target.now _ (fits (goal.at.returns c).Else-count-start) (omega arith) c.put_file.ensures)
