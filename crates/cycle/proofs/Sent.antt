@@ -1,12 +1,13 @@
 -- The packet that takes each way out of a router is the one that the code sends: what goes E, what goes S, and of that what exits.
 -- Rests on specs/Sent and the rule's law of who enters.
-use mathlib.Core.Bool.{Bool, true, false, cond, false≢true}
+use mathlib.Core.Bool.{Bool, true, false, not, cond, false≢true}
 use mathlib.Core.Logic.{inl, inr}
 use mathlib.Core.Option.{Option}
 use mathlib.Core.Path.{◌≡◌, refl, sym, ap, ◌∙◌}
 use Prim.Native.Nat.{ℕ}
 use lib.Dec.{eqb}
-use Rattle.std.specs.Prelude.{Some, None, is_none}
+use Rattle.std.specs.Prelude as Prelude
+use Rattle.std.specs.Prelude.{Some, None, is_some, is_none}
 use Rattle.laws.proofs.Cases.{test}
 use Rattle.flow.specs.declared.Port.{Port}
 use Rattle.flow.specs.declared.Port.TheVariants.{East, South}
@@ -24,6 +25,11 @@ use Rattle.cycle.specs.Sent.{sent_east, sent_south, entering_by, eastward, south
 pub shows_none : (p : Plan) (r : Register) → no_packet (shown p r) ≡ is_none r
 shows_none p None = refl
 shows_none p (Some packet) = refl
+
+-- what a call of `is_none` tells
+pub none_is : {A : Type 0} (o : Prelude.Option A) (b : Bool) → is_some o ≡ not b → is_none o ≡ b
+none_is o true e = rw e
+none_is o false e = rw e
 
 -- by a way out, of what goes E and what goes S, where that exits or not
 abbrev by : Way → (exit : Bool) → (east south : Register) → Register

@@ -19,7 +19,7 @@ module _ (g : Grid) where
   reach_on x y South h k = (h, next_below g.sy y k)
 
   -- a register's four words
-  pub place_fits : (at : Place) → column_of at < g.sx → row_of at < g.sy → register_place g.sx at + register_size ≤ registers_of g
+  place_fits : (at : Place) → column_of at < g.sx → row_of at < g.sy → register_place g.sx at + register_size ≤ registers_of g
   place_fits (W x y) h k = omega (arith, cell_below g.sx g.sy x y h k)
   place_fits (N x y) h k = omega (arith, cell_below g.sx g.sy x y h k)
 

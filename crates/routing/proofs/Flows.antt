@@ -12,16 +12,16 @@ use Rattle.router.specs.Rule.{turns_south, entrant}
 use Rattle.router.proofs.Entrant.{Found, no_entrant, has_entrant, found}
 use Rattle.state.specs.Register.{Register}
 use Rattle.std.specs.Prelude.{Some, None}
+use Rattle.std.specs.Option.{option_or}
 use Rattle.state.specs.State.{cell_at}
 use Rattle.state.specs.Inner.{flow_of}
-use Rattle.state.specs.Read.{count_in, state_of}
+use Rattle.state.specs.Read.{sx_in, sy_in, count_in, state_of}
 use Rattle.state.specs.Facts.{StateFacts}
 use Rattle.state.proofs.View.{view_count}
 use Rattle.cycle.specs.Seen.{shown, view}
 use Rattle.cycle.specs.Step.{deflected}
-use Rattle.cycle.specs.Sent.{or_else, entering_by, eastward, southward}
+use Rattle.cycle.specs.Sent.{entering_by, eastward, southward}
 use Rattle.cycle.proofs.Facts.{west_flow, north_flow}
-use Rattle.routing.specs.Walk.{AtRouter}
 
 module _ (w : List ℕ) where
   abbrev InPlan : Register → Type 0
@@ -31,7 +31,7 @@ module _ (w : List ℕ) where
   either a b true p q = p
   either a b false p q = q
 
-  first : (a b : Register) → InPlan a → InPlan b → InPlan (or_else a b)
+  first : (a b : Register) → InPlan a → InPlan b → InPlan (option_or a b)
   first None b p q = q
   first (Some packet) b p q = p
 
@@ -47,7 +47,7 @@ module _ (w : List ℕ) where
   entering_flow s port (has_entrant f e) =
       either _ _ (same_port (port_of (state_of w).plan.sx (flow_at (state_of w).plan f)) port) (rw (view_count w) at e.below) s.header.count_least
 
-module _ (w : List ℕ) (x y : ℕ) (here : AtRouter w x y) where
+module _ (w : List ℕ) (s : StateFacts w) (x y : ℕ) (h : x < sx_in w) (k : y < sy_in w) where
   abbrev west : Register
   west = (cell_at (state_of w) x y).west
 
@@ -61,16 +61,16 @@ module _ (w : List ℕ) (x y : ℕ) (here : AtRouter w x y) where
   client port = entering_by (state_of w) port (entrant (state_of w).plan (view (state_of w)) x y)
 
   client_flow : (port : Port) → InPlan w (client port)
-  client_flow port = entering_flow w here.router.facts port (found (state_of w).plan (view (state_of w)) x y)
+  client_flow port = entering_flow w s port (found (state_of w).plan (view (state_of w)) x y)
 
   west_in : InPlan w west
-  west_in = west_flow w here.router.facts x y here.router.column here.router.row
+  west_in = west_flow w s x y h k
 
   north_in : InPlan w north
-  north_in = north_flow w here.router.facts x y here.router.column here.router.row
+  north_in = north_flow w s x y h k
 
   few : (r : Register) → InPlan w r → flow_of r < most_flows
-  few r sent = omega (arith, here.router.facts.header.count_most)
+  few r sent = omega (arith, s.header.count_most)
 
   pub south_sent : flow_of (southward (state_of w) x y) < count_in w
   unfolding southward
@@ -85,4 +85,4 @@ module _ (w : List ℕ) (x y : ℕ) (here : AtRouter w x y) where
 
   pub south_reaches : (exit : Bool) → flow_of (cond exit None (southward (state_of w) x y)) < most_flows
   south_reaches exit =
-      few (cond exit None (southward (state_of w) x y)) (either w None (southward (state_of w) x y) exit here.router.facts.header.count_least south_sent)
+      few (cond exit None (southward (state_of w) x y)) (either w None (southward (state_of w) x y) exit s.header.count_least south_sent)

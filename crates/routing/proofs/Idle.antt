@@ -7,30 +7,29 @@ use Prim.Native.Nat.{ℕ}
 use Rattle.laws.proofs.Cases.{and_true}
 use Rattle.router.specs.Rule.{Way, leave, takes, entrant}
 use Rattle.state.specs.Register.{Register}
-use Rattle.std.specs.Prelude.{Some, None}
+use Rattle.std.specs.Prelude.{Some, None, is_none}
 use Rattle.state.specs.State.{State, cell_at}
 use Rattle.state.specs.Read.{state_of}
 use Rattle.cycle.specs.Seen.{view}
-use Rattle.cycle.specs.Sent.{is_empty}
 use Rattle.cycle.specs.Step.{sends_by, sent_by, carried, delivered}
-use Rattle.routing.specs.Sent.{is_none, is_idle}
+use Rattle.routing.specs.Sent.{nobody, is_idle}
 use Rattle.routing.specs.Walk.{pushed, passed}
 
 module _ (s : State) (x y : ℕ) (idle : is_idle s x y ≡ true) where
-  empty : (r : Register) → is_empty r ≡ true → r ≡ None
+  empty : (r : Register) → is_none r ≡ true → r ≡ None
   empty None e = refl
   empty (Some packet) e = absurd (false≢true e)
 
-  nobody : (who : Option ℕ) → is_none who ≡ true → who ≡ none
-  nobody none e = refl
-  nobody (some f) e = absurd (false≢true e)
+  no_entrant : (who : Option ℕ) → nobody who ≡ true → who ≡ none
+  no_entrant none e = refl
+  no_entrant (some f) e = absurd (false≢true e)
 
   -- no packet in W and none in N, and nobody enters
   parts : (entrant s.plan (view s) x y ≡ none) × (((cell_at s x y).west ≡ None) × ((cell_at s x y).north ≡ None))
   parts =
-      let two = and_true (is_none (entrant s.plan (view s) x y) && is_empty (cell_at s x y).west) (is_empty (cell_at s x y).north) idle in
-      let one = and_true (is_none (entrant s.plan (view s) x y)) (is_empty (cell_at s x y).west) two.0 in
-      (nobody _ one.0, (empty _ one.1, empty _ two.1))
+      let two = and_true (nobody (entrant s.plan (view s) x y) && is_none (cell_at s x y).west) (is_none (cell_at s x y).north) idle in
+      let one = and_true (nobody (entrant s.plan (view s) x y)) (is_none (cell_at s x y).west) two.0 in
+      (no_entrant _ one.0, (empty _ one.1, empty _ two.1))
 
   pub idle_carries : (o : Way) → carried s x y o ≡ None
   unfolding carried sent_by takes sends_by

@@ -13,10 +13,9 @@ use lib.Seq.{length-sets}
 use Rattle.laws.specs.Grid.{cell_index}
 use Rattle.laws.specs.Turns.{turns}
 use Rattle.laws.proofs.Cases.{test, both_eqb}
-use Rattle.laws.proofs.Grid.{cell_below, cell_one}
+use Rattle.laws.proofs.Grid.{cell_one}
 use Rattle.laws.proofs.Stands.{Stands, stands_sets, stands_other, stands_append}
 use Rattle.laws.proofs.Turns.{turns_along, turns_fill}
-use Rattle.torus.proofs.Axis.{next_below}
 use Rattle.flow.specs.declared.Port.{Port}
 use Rattle.flow.specs.declared.Port.TheVariants.{East, South}
 use Rattle.flow.specs.Offsets.{same_port}
@@ -34,6 +33,7 @@ use Rattle.cycle.specs.Sent.{eastward, southward, exits}
 use Rattle.cycle.specs.Step.{carried, next_register, next_cell}
 use Rattle.cycle.proofs.Sent.{east_is, south_is}
 use Rattle.output.specs.Grid.{torus_of, register_place, push}
+use Rattle.output.proofs.Reach.{reach_on, reach_fits}
 use Rattle.routing.specs.Sent.{is_idle}
 use Rattle.routing.specs.Walk.{grid_in, registers_in, pushed, passed, pushed_row, pushed_all}
 use Rattle.routing.proofs.Idle.{idle_carries, passed_idle, passed_busy}
@@ -64,11 +64,6 @@ module _ (w : List ℕ) where
   abbrev To : (x y : ℕ) → Port → Place
   To x y o = reach p x y o
 
-  on : (x y : ℕ) (o : Port) → x < p.sx → y < p.sy → (column_of (To x y o) < p.sx) × (row_of (To x y o) < p.sy)
-  unfolding reach
-  on x y East h k = (next_below p.sx x h, k)
-  on x y South h k = (h, next_below p.sy y k)
-
   abbrev words : (x y : ℕ) → Port → List ℕ
   words x y o = register_words (carried (state_of w) x y (via o))
 
@@ -78,10 +73,6 @@ module _ (w : List ℕ) where
   -- the registers are all there; an output has sent
   abbrev Room : List ℕ → Type 0
   Room l = registers_in w ≤ length l
-
-  fits : (at : Place) → column_of at < p.sx → row_of at < p.sy → register_place p.sx at + register_size ≤ registers_in w
-  fits (W x y) h k = omega (arith, cell_below p.sx p.sy x y h k)
-  fits (N x y) h k = omega (arith, cell_below p.sx p.sy x y h k)
 
   -- what stands where both outputs of a router reach
   abbrev Stand : (x y : ℕ) → (Port → List ℕ) → List ℕ → Type 0
@@ -93,8 +84,7 @@ module _ (w : List ℕ) where
   puts : (x y : ℕ) (o : Port) (l : List ℕ) → x < p.sx → y < p.sy → Room l
       → Stands 0 (push_by x y o l) (register_place p.sx (To x y o)) (words x y o)
   puts x y o l h k room =
-      let there = on x y o h k in
-      stands_sets 0 l _ (words x y o) (omega (arith, fits (To x y o) there.0 there.1, length_sent x y o))
+      stands_sets 0 l _ (words x y o) (omega (arith, reach_fits (grid_in w) x y o h k, length_sent x y o))
 
   -- another output leaves it
   leaves : (x y : ℕ) (o : Port) (a b : ℕ) (q : Port) (v l : List ℕ) → length v ≡ register_size → x < p.sx → y < p.sy → a < p.sx → b < p.sy
@@ -103,7 +93,7 @@ module _ (w : List ℕ) where
   leaves x y o a b q v l long h k m n no' stands =
       stands_other 0 l _ v _ (words x y o) stands
       (rw (long, length_sent x y o)
-      (apart p.sx (To a b q) (To x y o) (on a b q m n).0 (on x y o h k).0 (reach_same p a b x y q o m n h k ∙ no')))
+      (apart p.sx (To a b q) (To x y o) (reach_on (grid_in w) a b q m n).0 (reach_on (grid_in w) x y o h k).0 (reach_same p a b x y q o m n h k ∙ no')))
 
   -- a router's turn keeps the room
   passed_length : (x y : ℕ) (l : List ℕ) → length (passed w x y l) ≡ length l
@@ -192,8 +182,7 @@ module _ (w : List ℕ) where
 
   clear_blank : (l : List ℕ) → Room l → Clear l → (x y : ℕ) → x < p.sx → y < p.sy → Stand x y blank l
   clear_blank l room clear x y h k o =
-      let there = on x y o h k in
-      let inside = fits (To x y o) there.0 there.1 in
+      let inside = reach_fits (grid_in w) x y o h k in
       record { fits = omega (arith, room); same = λ j b. clear _ (omega arith) ∙ sym (zero_at j) }
     where
       zero_at : (j : ℕ) → get_or (register_words None) j 0 ≡ 0

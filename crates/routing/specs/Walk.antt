@@ -1,13 +1,11 @@
 -- What the walk over the routers leaves. Only promises of inner functions name these; proofs/ ties them to the definitions of Step.
-use Rattle.std.specs.Prelude.{Option, cond, List, ◌≡◌, ℕ, ◌<◌}
+use Rattle.std.specs.Prelude.{Option, cond, List, ◌≡◌, ℕ}
 use Rattle.laws.specs.Count.{join_below}
 use Rattle.laws.specs.Turns.{turns}
 use Rattle.flow.specs.declared.Port.TheVariants.{East, South}
-use Rattle.flow.specs.Limits.{last_clock}
 use Rattle.router.specs.Rule.{via}
 use Rattle.router.specs.Delivery.{Delivery}
-use Rattle.state.specs.Read.{sx_in, sy_in, count_in, clock_in, state_of}
-use Rattle.state.specs.Facts.{StateRouter}
+use Rattle.state.specs.Read.{sx_in, sy_in, count_in, state_of}
 use Rattle.cycle.specs.Step.{carried, delivered}
 use Rattle.entry.specs.Entrants.{AllEntered}
 use Rattle.output.specs.declared.Grid.{Grid}
@@ -43,12 +41,7 @@ pushed_all w l = turns (sy_in w) (pushed_row w) l
 unfoldable pub row_delivers : (w : List ℕ) → (y : ℕ) → List Delivery
 row_delivers w y = join_below (sx_in w) (λ x. delivered (state_of w) x y)
 
--- the state with words w has a router in column x and row y, and its clock isn't the last
-pub record AtRouter (w : List ℕ) (x y : ℕ) : Type 0 where
-  pub router : StateRouter w x y
-  pub clock_below : clock_in w < last_clock
-
--- a walk over all its routers, with their grid and who enters at each
+-- a walk over all routers of the state with words w, with their grid and who enters at each
 pub record Walking (w : List ℕ) (g : Grid) (entrants : List (Option ℕ)) : Type 0 where
   pub entered : AllEntered w entrants
   pub grid : g ≡ grid_in w

@@ -1,23 +1,18 @@
 -- `port_open`: the rule's own cases, of the registers at the flow's client.
-use Rattle.std.proofs.Common.{◌≡◌, ◌∙◌, sym, Bool, true, false, not, ◌&&◌, is_some, is_none}
+use Rattle.std.proofs.Common.{◌≡◌, ◌∙◌, sym, not, ◌&&◌, is_none}
 use Rattle.flow.specs.declared.Flow.{Flow}
 use Rattle.flow.specs.declared.Port.TheVariants.{East, South}
 use Rattle.flow.specs.Offsets.{port_of}
 use Rattle.router.specs.Rule.{turns_south, is_open}
-use Rattle.state.specs.Register.{Register}
 use Rattle.state.specs.declared.Cell.{Cell}
 use Rattle.state.specs.State.{State, cell_at}
 use Rattle.state.specs.Read.{plan_in, state_of}
 use Rattle.cycle.specs.Seen.{shown}
 use Rattle.cycle.proofs.Facts.{west_flow, packet_below}
-use Rattle.cycle.proofs.Sent.{shows_none}
+use Rattle.cycle.proofs.Sent.{shows_none, none_is}
 use Rattle.entry.specs.Entrants.{port_open}
 use Rattle.entry.proofs.port_open.Goals as goal
 use Rattle.entry.proofs.port_open.Goals.{In-East, In-South}
-
-none_is : (r : Register) (b : Bool) → is_some r ≡ not b → is_none r ≡ b
-none_is r true e = rw e
-none_is r false e = rw e
 
 module _ (s : State) (f : Flow) (c : Cell) (cell : c ≡ cell_at s f.xs f.ys) where
   open_east : port_of s.plan.sx f ≡ East → port_open s f ≡ is_none c.west
