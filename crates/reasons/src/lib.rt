@@ -36,9 +36,10 @@ fn why(state: &StateWords, f: u32, entrants: &mut [Option<u32>]) -> Reason
     }
     entry::enter(state, f, entrants);
     if entry::entered(entrants, state.sx(), flow, f) {
-        return Reason::Entered;
+        Reason::Entered
+    } else {
+        Reason::LowerEntered
     }
-    Reason::LowerEntered
 }
 
 // Each flow's reason, judged on this state, with room for the entrants; words after the last flow stay.

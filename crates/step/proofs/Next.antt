@@ -1,13 +1,14 @@
 -- The words that a step writes hold the state after it, by one law for each of its three writers. Rests on Push and the laws of a
 -- state's words.
 use mathlib.Core.List.{List}
-use mathlib.Core.Path.{◌≡◌, ◌∙◌}
+use mathlib.Core.Path.{◌≡◌, refl, ◌∙◌}
 use Prim.Native.Nat.{ℕ, ◌+◌, ◌*◌, ◌≤◌, ◌<◌}
 use native.Mathlib.Omega.{arith}
 use borrow.Author.Tests.{lt-ltb}
 use lib.ListN.{length, get_or, set, take, drop, replicate, length-replicate, get_or-replicate}
 use lib.Seq.{sets, length-take-le}
-use Rattle.std.specs.Prelude.{None}
+use Rattle.std.specs.Borrow.{MutBor}
+use Rattle.std.specs.Prelude.{Option, None}
 use Rattle.laws.specs.Grid.{cell_index}
 use Rattle.laws.specs.Turns.{turns}
 use Rattle.laws.proofs.Bounded.{get_d_tabulate}
@@ -28,7 +29,7 @@ use Rattle.cycle.specs.Step.{next_tally, next_cell, step_state}
 use Rattle.entry.proofs.Clients.{no_entrants}
 use Rattle.routing.specs.Walk.{registers_in, pushed_all}
 use Rattle.routing.proofs.Push.{pushed_cell, length_pushed}
-use Rattle.step.specs.Next.{Room, next_words}
+use Rattle.step.specs.Next.{Room, After, Ran, next_words}
 
 -- room for n routers is enough for a torus with no more
 pub room_for : (w : List ℕ) (n : ℕ) → sx_in w * sy_in w ≤ n → Room w (replicate n None) (replicate (router_size * n) 0)
@@ -37,6 +38,26 @@ room_for w n few =
       registers_fit = rw length-replicate (omega arith);
       registers_clear = λ i h. get_or-replicate (router_size * n) i 0 0 (omega arith);
       no_entrants = no_entrants w n few;
+    }
+
+-- a call with that room
+pub ran_in : {R : Type 0} (post : After R) (s b : MutBor (List ℕ)) (e : MutBor (List (Option ℕ))) (g : MutBor (List ℕ)) (r : R)
+    (s' b' : MutBor (List ℕ)) (e' : MutBor (List (Option ℕ))) (g' : MutBor (List ℕ))
+    → Room s.now e.now g.now → post s b e g r s' b' e' g' → Ran post s.now b.now r s'.now b'.now
+ran_in post s b e g r s' b' e' g' room ran =
+    record {
+      state = s;
+      memory = b;
+      entrants = e;
+      registers = g;
+      state_after = s';
+      memory_after = b';
+      entrants_after = e';
+      registers_after = g';
+      before = (refl, refl);
+      room = room;
+      ran = ran;
+      after = (refl, refl);
     }
 
 module _ (w : List ℕ) (facts : StateFacts w) where

@@ -37,17 +37,23 @@ pub record Room (w : List ℕ) (entrants : List (Option ℕ)) (registers : List 
   pub registers_clear : (i : ℕ) → i < registers_in w → get_or registers i 0 ≡ 0
   pub no_entrants : Entrants (state_of w) 0 entrants
 
--- a call may be made on a state w and a memory beside it, whatever its room
-abbrev pub Runs : (MutBor (List ℕ) → MutBor (List ℕ) → MutBor (List (Option ℕ)) → MutBor (List ℕ) → Type 0) → (w beside : List ℕ) → Type 0
+-- what is said of a call on a state, a memory beside it, entrants and registers, and after it
+abbrev pub Before : Type 1
+Before = MutBor (List ℕ) → MutBor (List ℕ) → MutBor (List (Option ℕ)) → MutBor (List ℕ) → Type 0
+
+abbrev pub After : Type 0 → Type 1
+After R =
+    MutBor (List ℕ) → MutBor (List ℕ) → MutBor (List (Option ℕ)) → MutBor (List ℕ) → R
+    → MutBor (List ℕ) → MutBor (List ℕ) → MutBor (List (Option ℕ)) → MutBor (List ℕ) → Type 0
+
+-- the call may be made on a state w and a memory beside it, with any room
+abbrev pub Runs : Before → (w beside : List ℕ) → Type 0
 Runs pre w beside =
     (s b : MutBor (List ℕ)) (entrants : MutBor (List (Option ℕ))) (registers : MutBor (List ℕ))
     → s.now ≡ w → b.now ≡ beside → Room w entrants.now registers.now → pre s b entrants registers
 
 -- the call was made on them with some room, and gave r and left w' and beside'
-pub record Ran {R : Type 0}
-    (post : MutBor (List ℕ) → MutBor (List ℕ) → MutBor (List (Option ℕ)) → MutBor (List ℕ) → R
-    → MutBor (List ℕ) → MutBor (List ℕ) → MutBor (List (Option ℕ)) → MutBor (List ℕ) → Type 0)
-    (w beside : List ℕ) (r : R) (w' beside' : List ℕ) : Type 0 where
+pub record Ran {R : Type 0} (post : After R) (w beside : List ℕ) (r : R) (w' beside' : List ℕ) : Type 0 where
   pub state : MutBor (List ℕ)
   pub memory : MutBor (List ℕ)
   pub entrants : MutBor (List (Option ℕ))

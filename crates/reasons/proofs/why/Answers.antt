@@ -74,7 +74,7 @@ returns-then-entered c =
     let both = (by_word (goal.at.returns-then-entered c).After-entered).0 c.if-entered.true in
     record { value = both.0; entrants_2 = both.1 }
 
-pub returns : goal.returns
-returns c =
-    let both = (by_word (goal.at.returns c).After-entered).1 c.if-entered.false in
+pub returns-else-entered : goal.returns-else-entered
+returns-else-entered c =
+    let both = (by_word (goal.at.returns-else-entered c).After-entered).1 c.if-entered.false in
     record { value = both.0; entrants_2 = both.1 }

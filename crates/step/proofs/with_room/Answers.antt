@@ -2,7 +2,7 @@
 use mathlib.Core.Path.{refl}
 use Rattle.state.specs.Inner.{most_routers}
 use Rattle.cycle.proofs.Facts.{cells_most}
-use Rattle.step.proofs.Next.{room_for}
+use Rattle.step.proofs.Next.{room_for, ran_in}
 use Rattle.step.proofs.with_room.Goals as goal
 
 pub f-requires : goal.f-requires
@@ -15,52 +15,10 @@ pub f-requires-else-routers-le64 : goal.f-requires-else-routers-le64
 f-requires-else-routers-le64 g c = c.requires.callable _ _ _ _ refl refl (room_for _ most_routers (cells_most _ c.requires.facts))
 
 pub returns-then-routers-le16 : goal.returns-then-routers-le16
-returns-then-routers-le16 g c =
-    record {
-      state = _;
-      memory = _;
-      entrants = _;
-      registers = _;
-      state_after = _;
-      memory_after = _;
-      entrants_after = _;
-      registers_after = _;
-      before = (refl, refl);
-      room = room_for _ 16 c.if-routers-le16.true;
-      ran = c.f.ensures;
-      after = (refl, refl);
-    }
+returns-then-routers-le16 g c = ran_in _ _ _ _ _ _ _ _ _ _ (room_for _ 16 c.if-routers-le16.true) c.f.ensures
 
 pub returns-then-routers-le64 : goal.returns-then-routers-le64
-returns-then-routers-le64 g c =
-    record {
-      state = _;
-      memory = _;
-      entrants = _;
-      registers = _;
-      state_after = _;
-      memory_after = _;
-      entrants_after = _;
-      registers_after = _;
-      before = (refl, refl);
-      room = room_for _ 64 c.if-routers-le64.true;
-      ran = c.f-then-routers-le64.ensures;
-      after = (refl, refl);
-    }
+returns-then-routers-le64 g c = ran_in _ _ _ _ _ _ _ _ _ _ (room_for _ 64 c.if-routers-le64.true) c.f-then-routers-le64.ensures
 
 pub returns-else-routers-le64 : goal.returns-else-routers-le64
-returns-else-routers-le64 g c =
-    record {
-      state = _;
-      memory = _;
-      entrants = _;
-      registers = _;
-      state_after = _;
-      memory_after = _;
-      entrants_after = _;
-      registers_after = _;
-      before = (refl, refl);
-      room = room_for _ most_routers (cells_most _ c.requires.facts);
-      ran = c.f-else-routers-le64.ensures;
-      after = (refl, refl);
-    }
+returns-else-routers-le64 g c = ran_in _ _ _ _ _ _ _ _ _ _ (room_for _ most_routers (cells_most _ c.requires.facts)) c.f-else-routers-le64.ensures
