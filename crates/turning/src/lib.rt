@@ -12,9 +12,6 @@ use flow::Flow;
 // The words of all columns of the largest torus.
 pub const COLUMNS: usize = 16;
 
-// A row that no word has.
-pub const NO_ROW: u32 = 16;
-
 // The flow makes its source row turning for its destination column, unless it starts in that column.
 pub fn note(columns: &mut [u32], f: Flow)
     requires { (f.xd < length columns.old) × (f.ys < most_size) }
