@@ -12,6 +12,7 @@ ghost use Rattle.flight.specs.Flight.{flight_of};
 use flow::Flow;
 
 // The most cycles of a flow's packet from entry to exit, with 2. The word has the rows that turn for its destination column.
+#[tactic(auto, using(crate::proofs::Flight::flight_most, turning::proofs::Turning::south_most, torus::proofs::Axis::offset_below))]
 pub fn flight_bound(sx: u32, sy: u32, word: u32, f: Flow) -> u32
     requires flow_ok { (FlowOk sx sy f) × ((sx ≤ most_size) × (sy ≤ most_size)) }
     requires word_bound { word < 2 ^ sy }

@@ -18,6 +18,7 @@ pub fn offset(size: u32, from: u32, to: u32) -> u32
 }
 
 // Whether `at` lies on the way from `from` to `to`, going round: no further after `from` than `to`.
+#[tactic(auto, using(crate::proofs::Axis::on_way_lem, crate::proofs::Axis::offset_below))]
 pub fn on_way(size: u32, from: u32, at: u32, to: u32) -> bool
     requires { (from < size) × ((at < size) × (to < size)) }
     ensures { result ≡ leb (offset size from at) (offset size from to) }
@@ -26,6 +27,7 @@ pub fn on_way(size: u32, from: u32, at: u32, to: u32) -> bool
 }
 
 // The offset, read as the size if it is 0.
+#[tactic(auto, unfolding(crate::specs::Axis::lap))]
 pub fn lap(size: u32, from: u32, to: u32) -> u32
     requires { (from < size) × (to < size) }
     ensures { result ≡ lap size from to }
@@ -35,6 +37,7 @@ pub fn lap(size: u32, from: u32, to: u32) -> u32
 }
 
 // The neighbour to the east of a column, or to the south of a row.
+#[tactic(auto, unfolding(crate::specs::Axis::next))]
 pub fn next(size: u32, at: u32) -> u32
     requires { at < size }
     ensures { result ≡ next size at }

@@ -12,20 +12,17 @@ use flow::Flow;
 // The words of all columns of the largest torus.
 pub const COLUMNS: usize = 16;
 
-// A row that no word has.
-pub const NO_ROW: u32 = 16;
-
 // The flow makes its source row turning for its destination column, unless it starts in that column.
 pub fn note(columns: &mut [u32], f: Flow)
     requires { (f.xd < length columns.old) × (f.ys < most_size) }
     ensures { columns.new ≡ noted columns.old f }
 {
-    let row = if f.xs == f.xd { 0 } else { 1u32 << f.ys };
-    let column = f.xd as usize;
-    columns[column] = columns[column] | row;
+    let row = if f.xs == f.xd { 0 } else { 1 << f.ys };
+    columns[f.xd as usize] |= row;
 }
 
 // Row y is in the word.
+#[tactic(auto, unfolding(laws::specs::Bits::is_set))]
 pub fn has_row(word: u32, y: u32) -> bool
     requires { y ≤ most_size }
     ensures { result ≡ is_set word y }
@@ -40,6 +37,6 @@ pub fn rows_south(sy: u32, word: u32, y: u32, n: u32) -> u32
 {
     let twice = (word << sy) | word;
     let south = twice >> (y + 1);
-    let first = (1u32 << n) - 1;
-    u32::count_ones(south & first)
+    let first = (1 << n) - 1;
+    (south & first).count_ones()
 }
