@@ -7,10 +7,8 @@ use Rattle.flow.specs.Plan.{most_flows}
 use Rattle.flow.specs.Ranges.{FlowOk, SizeOk}
 use Rattle.flow.specs.Limits.{most_waiting}
 use Rattle.place.specs.Place.{W, N}
-use Rattle.state.specs.Register.{Register}
 use Rattle.state.specs.declared.Tally.{Tally}
 use Rattle.state.specs.Layout.{zeros_place, register_size, flow_place}
-use Rattle.state.specs.Inner.{flow_of}
 use Rattle.state.specs.Read.{sx_in, sy_in, count_in, clock_in, flow_in, tally_in, router_in}
 use Rattle.state.specs.Forms.{register_fits, size_in}
 
@@ -54,12 +52,6 @@ pub record FlowsFit (w dxs : List ℕ) : Type 0 where
   pub flow : (f : ℕ) → f < count_in w → FlowFacts w f
   pub known : ColumnOffsets w (count_in w) dxs
 
--- of such words, the router in column x and row y
-pub record RouterOf (w dxs : List ℕ) (x y : ℕ) : Type 0 where
-  pub fit : FlowsFit w dxs
-  pub column : x < sx_in w
-  pub row : y < sy_in w
-
 -- all that later code asks of words that form a state
 pub record StateFacts (w : List ℕ) : Type 0 where
   pub header : HeaderFacts w
@@ -78,8 +70,3 @@ pub record StateRouter (w : List ℕ) (x y : ℕ) : Type 0 where
   pub facts : StateFacts w
   pub column : x < sx_in w
   pub row : y < sy_in w
-
--- a register whose packet, if there is one, is of a flow of theirs
-pub record StatePacket (w : List ℕ) (r : Register) : Type 0 where
-  pub facts : StateFacts w
-  pub flow_below : flow_of r < count_in w
