@@ -32,7 +32,7 @@ use Rattle.entry.proofs.Clients.{entrant_found}
 
 -- what flow f's turn tells, and the entrants that it leaves
 abbrev pub Turn : (w : List ℕ) → (f : ℕ) → Reason → List (Option ℕ) → Type 0
-Turn w f r l = (r ≡ reason (state_of w).plan (view (state_of w)) f) × Entrants (state_of w) (f + 1) l
+Turn w f r l = record { value : r ≡ reason (state_of w).plan (view (state_of w)) f; entrants_2 : Entrants (state_of w) (f + 1) l }
 
 module _ (w : List ℕ) (s : StateFacts w) (f : ℕ) (below : f < count_in w) (t : Tally) (tally : t ≡ tally_at (state_of w) f) where
   abbrev p : Plan
@@ -59,14 +59,14 @@ module _ (w : List ℕ) (s : StateFacts w) (f : ℕ) (below : f < count_in w) (t
     unfolding ready
     turn_nothing h =
         let waits = none_waits h in
-        (sym (told_nothing p v f waits), entrants_unready (state_of w) f l (rw waits) e)
+        record { value = sym (told_nothing p v f waits); entrants_2 = entrants_unready (state_of w) f l (rw waits) e }
 
     pub turn_no_token : 0 < t.waiting → t.bucket.tokens < 1 → Turn w f NoToken l
     unfolding ready
     turn_no_token h k =
         let waits = some_wait h in
         let token = no_token k in
-        (sym (told_no_token p v f waits token), entrants_unready (state_of w) f l (rw (waits, token)) e)
+        record { value = sym (told_no_token p v f waits token); entrants_2 = entrants_unready (state_of w) f l (rw (waits, token)) e }
 
   -- a waiting packet and a token: the port of the flow's numbers decides, by the rule
   module _ (h : 0 < t.waiting) (k : 0 < t.bucket.tokens) (φ : Flow) (flow : φ ≡ flow_at p f) where
@@ -80,7 +80,8 @@ module _ (w : List ℕ) (s : StateFacts w) (f : ℕ) (below : f < count_in w) (t
         let waits = some_wait h in
         let token = some_token k in
         let closed = sym port_is ∙ shut in
-        rw (port, flow) (sym (told_closed p v f waits token closed), entrants_unready (state_of w) f l (rw (waits, token, closed)) e)
+        rw (port, flow)
+        (record { value = sym (told_closed p v f waits token closed); entrants_2 = entrants_unready (state_of w) f l (rw (waits, token, closed)) e })
 
     -- an open port: the word at the flow's client after its turn tells whether it entered
     module _ (open' : port_open (state_of w) φ ≡ true) (l : List (Option ℕ)) (e : Entrants (state_of w) (f + 1) l)
@@ -92,5 +93,7 @@ module _ (w : List ℕ) (s : StateFacts w) (f : ℕ) (below : f < count_in w) (t
 
       pub turn_word : (r ≡ true → Turn w f Entered l) × (r ≡ false → Turn w f LowerEntered l)
       turn_word =
-          let has_all : Ready p v f = record { waits = some_wait h; token = some_token k; opened = sym port_is ∙ open' } in
-          (λ yes'. (sym (told_entered p v f (sym word_is ∙ yes')), e), λ no'. (sym (told_lower p v f has_all (sym word_is ∙ no')), e))
+          let has_all : Ready p v f = record { waits = some_wait h; token = some_token k; opened = sym port_is ∙ open' } in (
+            λ yes'. record { value = sym (told_entered p v f (sym word_is ∙ yes')); entrants_2 = e },
+            λ no'. record { value = sym (told_lower p v f has_all (sym word_is ∙ no')); entrants_2 = e },
+          )

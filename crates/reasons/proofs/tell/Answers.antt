@@ -1,12 +1,12 @@
 -- `tell`: turn by turn, each flow's word behind those of the flows below it.
 use mathlib.Core.List.{List}
-use mathlib.Core.Path.{◌≡◌, refl, sym, ap, ◌∙◌}
+use mathlib.Core.Path.{◌≡◌, sym, ap, ◌∙◌}
 use Prim.Native.Nat.{ℕ, ◌+◌, ◌≤◌}
 use native.Mathlib.Omega.{arith}
 use lib.ListN.{length, set}
 use Rattle.laws.specs.Bounded.{tabulate}
 use Rattle.laws.proofs.Bounded.{length_tabulate, tabulate_more}
-use Rattle.laws.proofs.Written.{wrote_none, wrote_one, wrote_then, wrote_length}
+use Rattle.laws.proofs.Written.{wrote_none, wrote_one, wrote_then}
 use Rattle.router.specs.Reasons.{number_of, reason_words}
 use Rattle.state.specs.Read.{count_in, state_of}
 use Rattle.state.specs.Outcome.{over}
@@ -32,29 +32,20 @@ told_all w l k room h =
     ∙ ap (λ n. over (tabulate n (word w)) l) (sym (counted w))
 
 pub loop-f-init : goal.loop-f-init
-loop-f-init c = (refl, (c.requires.entrants, told_none _ _))
+loop-f-init c = record { entrants = c.requires.entrants; told = told_none _ _ }
 
 -- the turn that a call begins, and the one that a word ends
 pub why-reason-requires : goal.why-reason-requires
-why-reason-requires c = record { f_below = omega arith; entrants = c.loop-f.invariant.1.0 }
-
-pub bounds-reasons-f : goal.bounds-reasons-f
-bounds-reasons-f c = rw (wrote_length c.loop-f.invariant.1.1) (omega arith)
+why-reason-requires c = record { f_below = omega arith; entrants = c.loop-f.invariant.entrants }
 
 pub loop-f-preserved : goal.loop-f-preserved
 loop-f-preserved c =
-    let old = c.loop-f.invariant in (
-      c.why-reason.auto.entrants ∙ old.0,
-      (c.why-reason.ensures.entrants_2, told_more _ _ _ _ _ (c.number.ensures ∙ ap number_of c.why-reason.ensures.value) old.1.1),
-    )
+    record {
+      entrants = c.why-reason.ensures.entrants_2;
+      told = told_more _ _ _ _ _ (c.number.ensures ∙ ap number_of c.why-reason.ensures.value) c.loop-f.invariant.told;
+    }
 
 pub returns : goal.returns
 returns c =
     let all : c.loop-f.f ≡ count_in c.args.state.now = omega arith in
-    told_all _ _ _ c.requires.state_in_bounds (rw all at c.loop-f.invariant.1.1)
-
-pub shape_of-entrants : goal.shape_of-entrants
-shape_of-entrants c = c.loop-f.invariant.0
-
-pub shape_of-reasons : goal.shape_of-reasons
-shape_of-reasons c = wrote_length c.loop-f.invariant.1.1
+    told_all _ _ _ c.requires.state_in_bounds (rw all at c.loop-f.invariant.told)

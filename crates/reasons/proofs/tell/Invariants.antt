@@ -1,7 +1,6 @@
+-- The walk of `tell`: the entrants of the flows below f, and their words.
 use mathlib.Core.List.{List}
-use mathlib.Core.Path.{◌≡◌}
 use Prim.Native.Nat.{ℕ}
-use lib.ListN.{length}
 use Rattle.laws.specs.Bounded.{tabulate}
 use Rattle.laws.specs.Written.{Wrote}
 use Rattle.router.specs.Reasons.{number_of, reason}
@@ -20,4 +19,7 @@ Told w before f after = Wrote before 0 (tabulate f (word w)) f after
 
 abbrev pub invariant-loop-f : goal.invariant-loop-f
 invariant-loop-f l =
-    (length l.entrants ≡ length l.initial.entrants) × (Entrants (state_of l.state) l.f l.entrants × Told l.state l.initial.reasons l.f l.reasons)
+    record {
+      entrants : Entrants (state_of l.state) l.f l.entrants;
+      told : Told l.state l.initial.reasons l.f l.reasons;
+    }

@@ -14,13 +14,11 @@ use Rattle.reasons.proofs.why.Goals.{After-entered, After-port}
 
 pub returns-then-t-lt1 : goal.returns-then-t-lt1
 returns-then-t-lt1 c =
-    let both = turn_nothing _ c.tally-t.ensures.facts _ c.requires.f_below _ c.tally-t.ensures.value _ c.requires.entrants c.if-t-lt1.true in
-    record { value = both.0; entrants_2 = both.1 }
+    turn_nothing _ c.tally-t.ensures.facts _ c.requires.f_below _ c.tally-t.ensures.value _ c.requires.entrants c.if-t-lt1.true
 
 pub returns-then-t-lt1-2 : goal.returns-then-t-lt1-2
 returns-then-t-lt1-2 c =
-    let both = turn_no_token _ c.tally-t.ensures.facts _ c.requires.f_below _ c.tally-t.ensures.value _ c.requires.entrants c.if-t-lt1.false c.if-t-lt1-2.true in
-    record { value = both.0; entrants_2 = both.1 }
+    turn_no_token _ c.tally-t.ensures.facts _ c.requires.f_below _ c.tally-t.ensures.value _ c.requires.entrants c.if-t-lt1.false c.if-t-lt1-2.true
 
 pub port_open-requires : goal.port_open-requires
 port_open-requires c = rw c.flow-flow.ensures.value (flow_ok _ c.tally-t.ensures.facts _ c.requires.f_below)
@@ -43,14 +41,12 @@ closed c =
 pub returns-in-East : goal.returns-in-East
 returns-in-East c =
     let port = (goal.at.returns-in-East c).After-port in
-    let both = subst (Told port) (ap closed_by c.in-East.is) (closed port) in
-    record { value = both.0; entrants_2 = both.1 }
+    subst (Told port) (ap closed_by c.in-East.is) (closed port)
 
 pub returns-in-South : goal.returns-in-South
 returns-in-South c =
     let port = (goal.at.returns-in-South c).After-port in
-    let both = subst (Told port) (ap closed_by c.in-South.is) (closed port) in
-    record { value = both.0; entrants_2 = both.1 }
+    subst (Told port) (ap closed_by c.in-South.is) (closed port)
 
 pub entered-requires : goal.entered-requires
 entered-requires c =
@@ -71,10 +67,8 @@ by_word c =
 
 pub returns-then-entered : goal.returns-then-entered
 returns-then-entered c =
-    let both = (by_word (goal.at.returns-then-entered c).After-entered).0 c.if-entered.true in
-    record { value = both.0; entrants_2 = both.1 }
+    (by_word (goal.at.returns-then-entered c).After-entered).0 c.if-entered.true
 
 pub returns-else-entered : goal.returns-else-entered
 returns-else-entered c =
-    let both = (by_word (goal.at.returns-else-entered c).After-entered).1 c.if-entered.false in
-    record { value = both.0; entrants_2 = both.1 }
+    (by_word (goal.at.returns-else-entered c).After-entered).1 c.if-entered.false

@@ -24,11 +24,14 @@ err_number (Err cause) e = let some = cause_some cause in λ none. omega arith
 
 after : (c : goal.In-loop-left) → let a = c.args in
     After a.state.now a.delivery.now (a.cycles - c.loop-left.left) c.loop-left.exits c.loop-left.state c.loop-left.delivery
-after c = c.loop-left.invariant.1.1.1.1
+after c = c.loop-left.invariant.so_far
 
 pub loop-left-init : goal.loop-left-init
 loop-left-init c =
-    (omega arith, (refl, (refl, (refl, after_at 0 (c.args.cycles - c.args.cycles) (sym (sub_self c.args.cycles)) (after_none _ _ c.requires.checked)))))
+    record {
+      within = omega arith;
+      so_far = after_at 0 (c.args.cycles - c.args.cycles) (sym (sub_self c.args.cycles)) (after_none _ _ c.requires.checked);
+    }
 
 pub check_next-requires : goal.check_next-requires
 check_next-requires c = after_behind _ _ c.requires.checked _ _ _ _ (after c)
@@ -46,8 +49,7 @@ take_turn-t-requires-clause-free_behind c =
 
 pub take_turn-t-requires-clause-rooms : goal.take_turn-t-requires-clause-rooms
 take_turn-t-requires-clause-rooms c =
-    let i = c.loop-left.invariant.1.1 in
-    after_rooms _ _ c.requires.checked _ _ _ _ (after (goal.at.take_turn-t-requires-clause-rooms c).In-loop-left) _ _ _ _ c.requires.rooms i.0 i.1.0
+    after_rooms _ _ c.requires.checked _ _ _ _ (after (goal.at.take_turn-t-requires-clause-rooms c).In-loop-left) _ _ _ _ c.requires.rooms c.loop-left.auto.entrants c.loop-left.auto.registers
 
 pub loop-left-preserved : goal.loop-left-preserved
 loop-left-preserved c =
@@ -56,9 +58,9 @@ loop-left-preserved c =
     let taken = c.take_turn-t.result.cycles in
     let old = c.loop-left.invariant in
     let most = turn_most _ _ _ _ _ _ _ c.loop-left-test.true c.take_turn-t.ensures in
-    let e : cycles - left + taken ≡ cycles - (left - taken) = omega (arith, most, old.0) in
+    let e : cycles - left + taken ≡ cycles - (left - taken) = omega (arith, most, old.within) in
     let next = after_turn _ _ c.requires.checked _ _ _ _ (after (goal.at.loop-left-preserved c).In-loop-left) (free (goal.at.loop-left-preserved c).Then-is_ok) left c.take_turn-t.result _ _ c.take_turn-t.ensures in
-    (omega arith, (c.take_turn-t.auto.state ∙ old.1.0, (c.take_turn-t.auto.entrants ∙ old.1.1.0, (c.take_turn-t.auto.registers ∙ old.1.1.1.0, after_at _ _ e next))))
+    record { within = omega arith; so_far = after_at _ _ e next }
 
 pub returns-else-is_ok : goal.returns-else-is_ok
 returns-else-is_ok c =
