@@ -1,7 +1,7 @@
 -- The starred cases of 01 with U3's windows and U8's rows, U3's, U8's and U9's own, and one of 01's slip 'Expecting a flow's packets in
 -- order', as rows of one table (01, Cases on both sides; Slips; 02, U3, U8, U9). All are 4 by 4, and each bound, conflict, window and burst
 -- states its plan.
-use Rattle.std.specs.Prelude.{List, [], ◌∷◌, map, ◌≡◌, ℕ, zero, suc}
+use Rattle.std.specs.Prelude.{List, [], ◌∷◌, map, ◌≡◌, ℕ, zero, suc, Some, None}
 use Rattle.flow.specs.declared.Flow.{Flow}
 use Rattle.flow.specs.declared.Offerer.TheVariants.{Sonar}
 use Rattle.flow.specs.Offsets.{ΔX, ΔY}
@@ -9,7 +9,6 @@ use Rattle.flow.specs.Plan.{Plan, flow_with as flow, flow_at}
 use Rattle.refusal.specs.Answer.{Answer, Done, Refused}
 use Rattle.plan.specs.Written.{plan_bytes}
 use Rattle.conflict.specs.Conflict.{Conflict}
-use Rattle.std.specs.Prelude.{Some, None}
 use Rattle.conflict.specs.Conflict.{conflict}
 use Rattle.flight.specs.Flight.{flight}
 use Rattle.bounds.specs.Bounds.{window_answer, burst_answer, flight_bound_of}

@@ -1,11 +1,10 @@
 -- What the packet book promises after every list of calls (01, The packet book, its end; 02, U8).
-use Rattle.std.specs.Prelude.{Bool, true, ◌&&◌, ◌≡◌, ℕ, ◌+◌, ◌-◌, ◌*◌, ◌≤◌, ◌<◌, eqb}
+use Rattle.std.specs.Prelude.{Bool, true, ◌&&◌, ◌≡◌, ℕ, ◌+◌, ◌-◌, ◌*◌, ◌≤◌, ◌<◌, eqb, Some}
 use mathlib.Core.List.{List, Memᴰ as Mem}
 use Rattle.laws.specs.Count.{count}
 use Rattle.flow.specs.declared.Flow.{Flow}
 use Rattle.flow.specs.Offsets.{ΔY}
 use Rattle.flow.specs.Plan.{Plan, flow_at}
-use Rattle.std.specs.Prelude.{Some}
 use Rattle.window.specs.Window.{window_of}
 use Rattle.flight.specs.Flight.{travel, most_deflections}
 use Rattle.place.specs.Place.{Place, column_of, row_of}

@@ -34,24 +34,21 @@ fn window_word(a: Result<u32, Refusal>) -> u32
 fn refusal_word(e: Refusal) -> u64
     ensures { result ≡ answer_word (Refused (cause_number e.cause) e.place) }
 {
-    (e.cause.number() as u64) * 4294967296 + (e.place as u64)
+    u64::from(e.cause.number()) * 4294967296 + u64::from(e.place)
 }
 
-// Any other call's answer as a number.
+// The answer of a call that has a value.
 fn value_word(a: Result<u32, Refusal>) -> u64
     ensures { result ≡ answer_word (told_value a) }
 {
-    match a {
-        Ok(v) => v as u64,
-        Err(e) => refusal_word(e),
-    }
+    a.map_or_else(refusal_word, u64::from)
 }
 
 // The answer of a call that has no value.
 fn answer_word(a: Result<(), Refusal>) -> u64
     ensures { result ≡ answer_word (told a) }
 {
-    value_word(a.map(|_| 0))
+    a.map_or_else(refusal_word, |()| 0)
 }
 
 // T of a flow, or 65,536 + the refusal number.
@@ -85,7 +82,7 @@ pub extern "C" fn hrt_flight(plan: &[u8], flow: u32) -> u64
 pub extern "C" fn hrt_notes(plan: &[u8]) -> u64
     ensures { result ≡ answer_word (notes_answer plan.now) }
 {
-    value_word(plan::plan_answer(plan).map(|_| plan::notes(plan).len() as u32))
+    plan::plan_answer(plan).map_or_else(refusal_word, |()| plan::notes(plan).len() as u64)
 }
 
 // A state from a plan file.

@@ -1,5 +1,5 @@
 -- The state that a packet book has: every word of it is the book's (01, The packet book).
-use Rattle.std.specs.Prelude.{List, [], ◌∷◌, ℕ, length}
+use Rattle.std.specs.Prelude.{List, [], ◌∷◌, ℕ, length, Some, None}
 use Rattle.laws.specs.Bounded.{tabulate}
 use Rattle.laws.specs.Grid.{grid}
 use Rattle.flow.specs.Plan.{Plan}
@@ -8,7 +8,6 @@ use Rattle.book.specs.Line.{Line, entry_of}
 use Rattle.book.specs.Book.{Book, bucket_at, waiting_of, entered_of}
 use Rattle.book.specs.Cycle.{lines_in}
 use Rattle.state.specs.Register.{Register, packet_with}
-use Rattle.std.specs.Prelude.{Some, None}
 use Rattle.state.specs.declared.Tally.{Tally}
 use Rattle.state.specs.declared.Cell.{Cell}
 use Rattle.state.specs.State.{State}
