@@ -4,6 +4,7 @@
 ghost use Rattle.std.specs.Prelude.{◌≡◌, ◌+◌, ◌*◌, ◌<◌, ◌≤◌, IfOk, length};
 ghost use Rattle.refusal.specs.Answer.{Done, answer_with, told, number_in};
 ghost use Rattle.flow.specs.Plan.{most_flows, flow_at};
+ghost use Rattle.flow.specs.Ranges.{PlanOk};
 ghost use Rattle.file.specs.Layout.{trailer_size, record_size, trailer_of, plan_of};
 ghost use Rattle.plan.specs.Refusals.{trailer_number, header_number, size_ok, record_number, records_answer, plan_answer};
 ghost use Rattle.plan.specs.Notes.{notes_of};
@@ -27,7 +28,8 @@ pub struct PlanFile<'a> {
 
 impl<'a> Model for PlanFile<'a> {
     ghost use Rattle.std.specs.Prelude.{List, ℕ, ◌≡◌};
-    ghost use Rattle.file.specs.Layout.{trailer_of};
+    ghost use Rattle.flow.specs.Ranges.{PlanOk};
+    ghost use Rattle.file.specs.Layout.{trailer_of, plan_of};
     ghost use Rattle.refusal.specs.Answer.{Done};
     ghost use Rattle.plan.specs.Refusals.{plan_answer};
 
@@ -35,7 +37,7 @@ impl<'a> Model for PlanFile<'a> {
 
     ghost view = { λ p. p.bytes.now };
 
-    ghost invariant = { λ p. (plan_answer p.bytes.now ≡ Done 0) × (p.trailer ≡ trailer_of p.bytes.now) };
+    ghost invariant = { λ p. (plan_answer p.bytes.now ≡ Done 0) × ((p.trailer ≡ trailer_of p.bytes.now) × PlanOk (plan_of p.bytes.now)) };
 }
 
 // A size of the torus is 1..16.
@@ -123,6 +125,7 @@ impl PlanFile<'_> {
     pub fn trailer(&self) -> Trailer
         ensures value { result ≡ trailer_of self.now }
         ensures accepted { plan_answer self.now ≡ Done 0 }
+        ensures plan_ok { PlanOk (plan_of self.now) }
     {
         self.trailer
     }

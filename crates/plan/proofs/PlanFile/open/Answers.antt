@@ -5,6 +5,7 @@ use Rattle.std.proofs.lemmas.Result.{err_from_is_err_and}
 use Rattle.refusal.specs.Answer.{Done}
 use Rattle.plan.specs.Refusals.{plan_answer}
 use Rattle.plan.proofs.Accepted.{Trailed, trailed, trailer_refused, answer_by_records}
+use Rattle.plan.proofs.Ranges.{plan_ok}
 use Rattle.plan.proofs.PlanFile.open.Goals as goal
 use Rattle.plan.proofs.PlanFile.open.Goals.{In_ok-check_trailer, In_ok-check_records}
 
@@ -35,7 +36,8 @@ accepted c =
     ∙ sym (rw c.trailer_of-trailer.ensures at c.in_ok-check_records.ensures)
 
 pub invariant_of-result : goal.invariant_of-result
-invariant_of-result c = (accepted c, c.trailer_of-trailer.ensures)
+invariant_of-result c =
+    (accepted c, (c.trailer_of-trailer.ensures, plan_ok _ _ (accepted c) (λ i. omega (arith, c.type_inv.bytes i))))
 
 pub returns-clause-answer : goal.returns-clause-answer
 returns-clause-answer c = sym (accepted c)
