@@ -20,7 +20,7 @@ answer_refused zero place h = absurd (h refl)
 answer_refused (suc n) place h = refl
 
 pub cause_answer : (c : Cause) (place : ℕ) → Refused (cause_number c) place ≡ answer_by (cause_number c) place
-cause_answer c place = answer_refused (cause_number c) place (cause_some c)
+cause_answer c place = let some = cause_some c in answer_refused (cause_number c) place (λ none. omega arith)
 
 pub answer_done : (n place v : ℕ) → answer_by n place ≡ Done v → n ≡ 0
 answer_done zero place v e = refl
@@ -57,7 +57,7 @@ module _ (number : ℕ → ℕ) where
 
   pub cause_first : (n i : ℕ) (c : Cause) → i < n → first_refused number i ≡ Done 0 → cause_number c ≡ number i
       → Refused (cause_number c) i ≡ first_refused number n
-  cause_first n i c l earlier is = rw is (first_at n i l earlier (λ none. cause_some c (is ∙ none)))
+  cause_first n i c l earlier is = rw is (first_at n i l earlier (λ none. let some = cause_some c in omega (arith, is, none)))
 
   -- none is refused where every number is 0
   pub first_all : (n : ℕ) → ((i : ℕ) → i < n → number i ≡ 0) → first_refused number n ≡ Done 0

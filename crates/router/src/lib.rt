@@ -8,18 +8,25 @@ ghost use Rattle.router.specs.Reasons.{number_of};
 // Whether a flow entered in a step, or why it didn't.
 #[derive(Clone, Copy, Debug, PartialEq, Eq)]
 pub enum Reason {
-    Entered = 0,
-    NothingWaiting = 1,
-    NoToken = 2,
-    WestHeld = 3,
-    SouthTaken = 4,
-    LowerEntered = 5,
+    Entered,
+    NothingWaiting,
+    NoToken,
+    WestHeld,
+    SouthTaken,
+    LowerEntered,
 }
 
 impl Reason {
     pub fn number(self) -> u32
         ensures { result ≡ number_of self }
     {
-        self as u32
+        match self {
+            Reason::Entered => 0,
+            Reason::NothingWaiting => 1,
+            Reason::NoToken => 2,
+            Reason::WestHeld => 3,
+            Reason::SouthTaken => 4,
+            Reason::LowerEntered => 5,
+        }
     }
 }

@@ -3,7 +3,7 @@ use mathlib.Core.Path.{◌≡◌, refl, sym, ◌∙◌}
 use native.Mathlib.Omega.{arith}
 use Rattle.refusal.specs.Answer.{number_in}
 use Rattle.state.specs.Read.{state_of}
-use Rattle.state.proofs.Causes.{cause_some}
+use Rattle.refusal.proofs.Causes.{cause_some}
 use Rattle.state.proofs.Forms.{state_facts}
 use Rattle.cycle.specs.Set.{entry_number}
 use Rattle.offers.proofs.Added.{added_none, added_few, added_forms, added_number, next_flow, added_more}

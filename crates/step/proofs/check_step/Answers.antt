@@ -10,7 +10,7 @@ use Rattle.flow.specs.Limits.{last_clock, step_number}
 use Rattle.flow.proofs.Limits.{step_passes}
 use Rattle.state.specs.Read.{clock_in, plan_in, state_of}
 use Rattle.state.specs.Forms.{state_number}
-use Rattle.state.proofs.Causes.{cause_some}
+use Rattle.refusal.proofs.Causes.{cause_some}
 use Rattle.state.proofs.Forms.{state_facts}
 use Rattle.state.proofs.Over.{unless_passes, unless_refuses}
 use Rattle.cycle.specs.Step.{step_on}

@@ -1,7 +1,8 @@
 -- `step`: its refusal, or one cycle.
 use mathlib.Core.Path.{refl, sym}
 use native.Mathlib.Omega.{arith}
-use Rattle.state.proofs.Causes.{cause_some, told_cause}
+use Rattle.refusal.proofs.Causes.{cause_some}
+use Rattle.state.proofs.Causes.{told_cause}
 use Rattle.step.proofs.step.Goals as goal
 
 pub returns-in_err-check_step : goal.returns-in_err-check_step

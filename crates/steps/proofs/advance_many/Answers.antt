@@ -7,7 +7,7 @@ use native.Mathlib.Omega.{arith}
 use Rattle.std.specs.Prelude.{Result, Ok, Err, is_ok}
 use Rattle.refusal.specs.declared.Cause.{Cause}
 use Rattle.refusal.specs.Answer.{number_in}
-use Rattle.state.proofs.Causes.{cause_some}
+use Rattle.refusal.proofs.Causes.{cause_some}
 use Rattle.steps.specs.Loop.{number_behind}
 use Rattle.steps.proofs.Loop.{After, after_at, after_none, after_behind, after_end, after_turn, after_rooms, turn_most}
 use Rattle.steps.proofs.advance_many.Goals as goal

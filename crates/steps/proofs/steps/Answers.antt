@@ -3,7 +3,8 @@ use mathlib.Core.Path.{refl, sym, ap}
 use native.Mathlib.Omega.{arith}
 use Rattle.refusal.specs.Answer.{Answer}
 use Rattle.state.specs.Outcome.{Outcome, Lent}
-use Rattle.state.proofs.Causes.{cause_some, told_cause}
+use Rattle.refusal.proofs.Causes.{cause_some}
+use Rattle.state.proofs.Causes.{told_cause}
 use Rattle.cycle.proofs.Keeps.{step_done}
 use Rattle.cycle.proofs.Steps.{steps_refused, steps_done}
 use Rattle.steps.proofs.steps.Goals as goal

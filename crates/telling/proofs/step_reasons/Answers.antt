@@ -1,7 +1,8 @@
 -- `step_reasons`: the step's refusal, 19, or one cycle that tells its reasons.
 use mathlib.Core.Path.{refl}
 use native.Mathlib.Omega.{arith}
-use Rattle.state.proofs.Causes.{cause_some, told_cause}
+use Rattle.refusal.proofs.Causes.{cause_some}
+use Rattle.state.proofs.Causes.{told_cause}
 use Rattle.cycle.proofs.Reasons.{refused_step, short_list, told}
 use Rattle.step.specs.Next.{Stepping}
 use Rattle.telling.proofs.step_reasons.Goals as goal

@@ -1,3 +1,0 @@
--- The laws of the table's text.
-pub mod Digits
-pub mod Rows
