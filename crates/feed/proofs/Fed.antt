@@ -28,4 +28,4 @@ unfolding fed_one kept_with
 fed_next groups last i records fed d r none more group e inside is =
     let below : d.flow < length fed = rw group inside in
     let same = get_or_default fed d.flow none no_record below in
-    rw (is, same, add-one, take-suc groups i [] more, map-append, fed_snoc last (map group_in (take i groups)) (group_in (get_or groups i [])) records, group, e)
+    rw (is, same, add-one, take-suc groups i [] more, map-append, fed_snoc, group, e)
