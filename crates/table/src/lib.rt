@@ -1,164 +1,148 @@
 // The table of a plan file as text in lent memory. Rests on bounds.
 #![tactic(auto)]
 
-ghost use Rattle.std.specs.Prelude.{◌∷◌, [], ◌+◌, ◌*◌, ◌<◌, ◌≤◌, length};
-ghost use Rattle.laws.specs.Count.{join_below};
+ghost use Rattle.std.specs.Prelude.{◌≡◌, [], ◌++◌, ◌+◌, ◌<◌, ◌≤◌, length};
 ghost use Rattle.laws.specs.Written.{Wrote};
 ghost use Rattle.refusal.specs.Cause.{cause_number};
-ghost use Rattle.file.specs.Layout.{plan_of};
-ghost use Rattle.turning.specs.Columns.{TurningIn};
+ghost use Rattle.file.specs.Layout.{trailer_of, plan_of};
 ghost use Rattle.window.specs.Window.{lone_wait};
-ghost use Rattle.bounds.specs.Inner.{Opened, FlowInFile};
 ghost use Rattle.table.specs.Decimal.{decimal};
-ghost use Rattle.table.specs.Table.{field, no_field, port_field, window_field, row, line, refused_line, table_of};
+ghost use Rattle.table.specs.Table.{port_field, window_field, row, line, refused_line, table_of};
 ghost use Rattle.table.specs.Inner.{most_digits, most_field, most_line, most_table, WaitFits};
 
-use file::Trailer;
+use arrayvec::ArrayString;
+use bounds::Bounds;
 use flow::{Flow, Port};
 use plan::PlanFile;
 use refusal::Refusal;
+use std::marker::Model;
 
-fn put_byte(out: &mut [u8], at: usize, b: u8) -> usize
-    requires { at < length out.old }
-    ensures { Wrote out.old at (b ∷ []) result out.new }
-{
-    out[at] = b;
-    at + 1
+// A line of the table, or its first fields, seen as its bytes. It isn't written by `write!`, which may fail for all that its
+// contract says, while the table is promised whole.
+#[derive(Drop)]
+struct LineText {
+    text: ArrayString<64>,
 }
 
-fn put_text(out: &mut [u8], at: usize, text: &[u8]) -> usize
+impl Model for LineText {
+    ghost use Rattle.std.specs.Prelude.{List, ℕ};
+
+    ghost Value = { List ℕ };
+
+    ghost view = { λ l. l.text.bytes };
+}
+
+impl LineText {
+    fn new() -> LineText
+        ensures { result ≡ [] }
+    {
+        LineText {
+            text: ArrayString::new(),
+        }
+    }
+
+    fn push(&mut self, text: &str)
+        requires { length self.old + length text.now ≤ most_line }
+        ensures { self.new ≡ self.old ++ text.now }
+    {
+        self.text.push_str(text);
+    }
+
+    #[tactic(auto, using(crate::proofs::Digits::decimal_printed))]
+    fn push_number(&mut self, n: u32)
+        requires { length self.old + most_digits ≤ most_line }
+        ensures bytes { self.new ≡ self.old ++ decimal n }
+        ensures room { length self.new ≤ length self.old + most_digits }
+    {
+        self.push(itoa::Buffer::new().format(n));
+    }
+
+    // A space and a number, or `-` where there is none.
+    fn push_field(&mut self, n: Option<u32>)
+        requires { length self.old + most_field ≤ most_line }
+        ensures bytes { self.new ≡ self.old ++ window_field (λ n. n) n }
+        ensures room { length self.new ≤ length self.old + most_field }
+    {
+        match n {
+            Some(n) => {
+                self.push(" ");
+                self.push_number(n);
+            }
+            None => self.push(" -"),
+        }
+    }
+
+    fn push_port(&mut self, port: Port)
+        requires { length self.old + 2 ≤ most_line }
+        ensures bytes { self.new ≡ self.old ++ port_field port }
+        ensures room { length self.new ≤ length self.old + 2 }
+    {
+        match port {
+            Port::East => self.push(" E"),
+            Port::South => self.push(" S"),
+        }
+    }
+
+    fn as_str(&self) -> &str
+        ensures value { result.now ≡ self.now }
+        ensures room { length result.now ≤ most_line }
+    {
+        self.text.as_str()
+    }
+}
+
+// The lone wait, if there is a window.
+fn wait(flow: Flow, window: Option<u32>) -> Option<u32>
+    requires { WaitFits flow window }
+    ensures { window_field (λ n. n) result ≡ window_field (lone_wait flow) window }
+{
+    window.map(|least| window::lone_wait(flow, least))
+}
+
+#[tactic(auto, unfolding(crate::specs::Table::row))]
+fn row(f: u32, flow: Flow, port: Port, window: Option<u32>, flight: u32) -> LineText
+    requires { WaitFits flow window }
+    ensures { result ≡ row f flow port window flight }
+{
+    let mut row = LineText::new();
+    row.push_number(f);
+    row.push_port(port);
+    row.push_field(window);
+    row.push_field(Some(flight));
+    row.push_field(wait(flow, window));
+    row.push("\n");
+    row
+}
+
+// The line of flow f, by the bounds of its plan file.
+fn line(plan: &PlanFile, bounds: &Bounds, f: u32) -> LineText
+    requires { (plan.now ≡ bounds.now) × (f < (trailer_of plan.now).count) }
+    ensures { result ≡ line (plan_of plan.now) f }
+{
+    let flow = plan.flow(f);
+    let port = flow.port(plan.trailer().sx);
+    row(f, flow, port, bounds.window(f), bounds.flight(f))
+}
+
+fn refused_line(refusal: Refusal) -> LineText
+    ensures { result ≡ refused_line (cause_number refusal.cause) refusal.place }
+{
+    let mut line = LineText::new();
+    line.push("refused");
+    line.push_field(Some(refusal.cause.number()));
+    line.push_field(Some(refusal.place));
+    line.push("\n");
+    line
+}
+
+// Writes a text from a place on; answers the place behind it.
+fn put(out: &mut [u8], at: usize, text: &str) -> usize
     requires { at + length text.now ≤ length out.old }
     ensures { Wrote out.old at text.now result out.new }
 {
-    let n = text.len();
-    for i in 0..n {
-        out[at + i] = text[i];
-    }
-    at + n
-}
-
-fn put_decimal(out: &mut [u8], at: usize, n: u32) -> usize
-    requires { at + length (decimal n) ≤ length out.old }
-    ensures wrote { Wrote out.old at (decimal n) result out.new }
-    ensures upper_bound { result ≤ at + most_digits }
-{
-    if n < 10 {
-        return put_byte(out, at, 48 + (n as u8));
-    }
-    let last = put_decimal(out, at, n / 10);
-    put_byte(out, last, 48 + ((n % 10) as u8))
-}
-
-fn put_field(out: &mut [u8], at: usize, n: u32) -> usize
-    requires { at + most_field ≤ length out.old }
-    ensures wrote { Wrote out.old at (field n) result out.new }
-    ensures upper_bound { result ≤ at + most_field }
-{
-    let next = put_byte(out, at, b' ');
-    put_decimal(out, next, n)
-}
-
-fn put_none(out: &mut [u8], at: usize) -> usize
-    requires { at + 2 ≤ length out.old }
-    ensures { Wrote out.old at no_field result out.new }
-{
-    put_text(out, at, b" -")
-}
-
-// T, or `-` where there is no window.
-fn put_window(out: &mut [u8], at: usize, window: Option<u32>) -> usize
-    requires { at + most_field ≤ length out.old }
-    ensures wrote { Wrote out.old at (window_field (λ T. T) window) result out.new }
-    ensures upper_bound { result ≤ at + most_field }
-{
-    match window {
-        Some(least) => put_field(out, at, least),
-        None => put_none(out, at),
-    }
-}
-
-// The lone wait, or `-` where there is no window.
-fn put_wait(out: &mut [u8], at: usize, flow: Flow, window: Option<u32>) -> usize
-    requires { (WaitFits flow window) × (at + most_field ≤ length out.old) }
-    ensures wrote { Wrote out.old at (window_field (lone_wait flow) window) result out.new }
-    ensures upper_bound { result ≤ at + most_field }
-{
-    match window {
-        Some(least) => put_field(out, at, window::lone_wait(flow, least)),
-        None => put_none(out, at),
-    }
-}
-
-fn put_port(out: &mut [u8], at: usize, port: Port) -> usize
-    requires { at + 2 ≤ length out.old }
-    ensures wrote { Wrote out.old at (port_field port) result out.new }
-    ensures upper_bound { result ≤ at + 2 }
-{
-    match port {
-        Port::East => put_text(out, at, b" E"),
-        Port::South => put_text(out, at, b" S"),
-    }
-}
-
-fn put_row(
-    out: &mut [u8],
-    at: usize,
-    f: u32,
-    flow: Flow,
-    port: Port,
-    window: Option<u32>,
-    flight: u32,
-) -> usize
-    requires { (WaitFits flow window) × (at + most_line ≤ length out.old) }
-    ensures wrote { Wrote out.old at (row f flow port window flight) result out.new }
-    ensures upper_bound { result ≤ at + most_line }
-{
-    let a = put_decimal(out, at, f);
-    let b = put_port(out, a, port);
-    let c = put_window(out, b, window);
-    let d = put_field(out, c, flight);
-    let e = put_wait(out, d, flow, window);
-    put_byte(out, e, 10)
-}
-
-// The line of flow f of an accepted file, by its turning rows.
-fn put_line(file: &[u8], t: Trailer, columns: &[u32], f: u32, out: &mut [u8], at: usize) -> usize
-    requires flow_in_file { (FlowInFile file.now t f) × (at + most_line ≤ length out.old) }
-    requires turning_in { TurningIn (plan_of file.now) columns.now }
-    ensures wrote { Wrote out.old at (line (plan_of file.now) f) result out.new }
-    ensures upper_bound { result ≤ at + most_line }
-{
-    let flow = bounds::flow_at(file, t, f);
-    let window = bounds::window_of(file, t, columns, f);
-    let flight = bounds::flight_bound_of(file, t, columns, f);
-    let port = flow.port(t.sx);
-    put_row(out, at, f, flow, port, window, flight)
-}
-
-fn put_refused(out: &mut [u8], at: usize, e: Refusal) -> usize
-    requires { at + most_line ≤ length out.old }
-    ensures wrote { Wrote out.old at (refused_line (cause_number e.cause) e.place) result out.new }
-    ensures upper_bound { result ≤ at + most_line }
-{
-    let a = put_text(out, at, b"refused");
-    let b = put_field(out, a, e.cause.number());
-    let c = put_field(out, b, e.place);
-    put_byte(out, c, 10)
-}
-
-// The lines of all flows of an accepted file; its turning rows are found once.
-fn put_lines(file: &[u8], t: Trailer, out: &mut [u8], at: usize) -> usize
-    requires { (Opened file.now t) × (at + most_line * t.count ≤ length out.old) }
-    ensures wrote { Wrote out.old at (join_below t.count (line (plan_of file.now))) result out.new }
-    ensures upper_bound { result ≤ at + most_line * t.count }
-{
-    let columns = bounds::turning_rows(file, t);
-    let count = t.count;
-    let mut next = at;
-    for f in 0..count {
-        next = put_line(file, t, &columns, f, out, next);
-    }
-    next
+    let end = at + text.len();
+    out[at..end].copy_from_slice(text.as_bytes());
+    end
 }
 
 // The table of a plan file, from the start of the memory; answers its length.
@@ -167,11 +151,15 @@ pub fn write(file: &[u8], out: &mut [u8]) -> usize
     ensures wrote { Wrote out.old 0 (table_of file.now) result out.new }
     ensures upper_bound { result ≤ most_table }
 {
-    match PlanFile::open(file) {
-        Err(e) => put_refused(out, 0, e),
-        Ok(plan) => {
-            let next = put_text(out, 0, b"flow port window flight wait\n");
-            put_lines(file, plan.trailer(), out, next)
-        }
+    let plan = match PlanFile::open(file) {
+        Err(refusal) => return put(out, 0, refused_line(refusal).as_str()),
+        Ok(plan) => plan,
+    };
+    let bounds = Bounds::of(&plan);
+    let count = plan.trailer().count;
+    let mut end = put(out, 0, "flow port window flight wait\n");
+    for f in 0..count {
+        end = put(out, end, line(&plan, &bounds, f).as_str());
     }
+    end
 }

@@ -1,47 +1,65 @@
--- `write`: the refusal's line, or the header and the lines.
-use mathlib.Core.Path.{◌≡◌, sym, ◌∙◌}
+-- `write`: the refusal's line, or the header and the lines; there is room for each.
+use mathlib.Core.Path.{◌≡◌}
+use Prim.Native.Nat.{◌≤◌}
+use native.Mathlib.Numerals.{add-one}
 use native.Mathlib.Omega.{arith}
+use lib.ListN.{length}
 use Rattle.laws.proofs.Written.{wrote_then, wrote_length}
-use Rattle.refusal.specs.Answer.{Done}
-use Rattle.plan.specs.Refusals.{plan_answer}
-use Rattle.plan.proofs.Accepted.{done_trailed}
-use Rattle.bounds.specs.Inner.{Opened}
-use Rattle.bounds.proofs.Opened.{opened_count, opened_few}
+use Rattle.flow.specs.Plan.{most_flows}
+use Rattle.file.specs.Layout.{plan_of}
+use Rattle.plan.proofs.Ranges.{plan_count}
+use Rattle.bounds.proofs.Opened.{few as bounds_few}
 use Rattle.table.specs.Table.{table_of}
 use Rattle.table.proofs.write.Goals as goal
-use Rattle.table.proofs.write.Goals.{After-trailer_of, In-Done}
+use Rattle.table.proofs.write.Goals.{After-trailer-count}
 
--- reading accepts the file
-done : (c : goal.In-Done) → plan_answer c.args.file.now ≡ Done c.in-Done.field-0
-done c = sym c.plan_answer.ensures ∙ c.in-Done.is
+-- as many lines as the trailer counts, and no more than a plan may have
+counted : (c : After-trailer-count) → length (plan_of c.args.file.now).flows ≡ c.trailer-count.result.count
+counted c = rw (c.trailer-count.ensures.value, c.in-Ok.ensures.file) (plan_count c.args.file.now)
 
-opened : (c : goal.After-trailer_of) → Opened c.args.file.now c.trailer_of.result
-opened c = record { value = _; done = done (goal.at.After-trailer_of c).In-Done; trailer = c.trailer_of.ensures }
+few : (c : After-trailer-count) → c.trailer-count.result.count ≤ most_flows
+few c = rw c.trailer-count.ensures.value (bounds_few _ c.trailer-count.ensures.plan_ok)
 
-pub put_lines-requires : goal.put_lines-requires
-put_lines-requires c =
-    let o = opened (goal.at.put_lines-requires c).After-trailer_of in
-    let w = c.put_text-next.ensures in
-    let room = c.requires in
-    (o, omega (arith, opened_few _ _ o, w.place, wrote_length w))
-
-pub returns-in-Refused : goal.returns-in-Refused
+pub returns-in-Err-clause-wrote : goal.returns-in-Err-clause-wrote
 unfolding table_of
-returns-in-Refused c =
+returns-in-Err-clause-wrote c = rw (← c.in-Err.ensures.answer, ← c.refused_line.ensures, ← c.as_str.ensures.value) c.put.ensures
+
+pub put-end-requires-in-loop-f : goal.put-end-requires-in-loop-f
+put-end-requires-in-loop-f c =
+    let inv = c.loop-f.invariant in
+    omega (
+      arith,
+      few (goal.at.put-end-requires-in-loop-f c).After-trailer-count,
+      inv.room,
+      wrote_length inv.lines,
+      wrote_length c.put-end.ensures,
+      c.put-end.ensures.place,
+      c.as_str-in-loop-f.ensures.room,
+      c.loop-f-test.true,
+      c.requires,
+    )
+
+pub loop-f-preserved : goal.loop-f-preserved
+loop-f-preserved c =
+    let inv = c.loop-f.invariant in
+    let put = c.put-end-in-loop-f.ensures in
+    let next = rw (c.as_str-in-loop-f.ensures.value, c.line.ensures, c.in-Ok.ensures.file) at put in
     record {
-      wrote = rw (← c.plan_answer.ensures, c.in-Refused.is) c.put_refused.ensures.wrote;
-      upper_bound = omega (arith, c.put_refused.ensures.upper_bound);
+      room = omega (arith, inv.room, put.place, c.as_str-in-loop-f.ensures.room);
+      lines = rw add-one (wrote_then inv.lines next);
     }
 
-pub returns-in-Done : goal.returns-in-Done
+pub returns-clause-wrote : goal.returns-clause-wrote
 unfolding table_of
-returns-in-Done c =
-    let o = opened (goal.at.returns-in-Done c).After-trailer_of in
-    let text = c.put_text-next.ensures in
-    record {
-      wrote = rw (o.done, opened_count _ _ o) (wrote_then text c.put_lines.ensures.wrote);
-      upper_bound = omega (arith, opened_few _ _ o, text.place, c.put_lines.ensures.upper_bound);
-    }
+returns-clause-wrote c =
+    let e : c.loop-f.f ≡ length (plan_of c.args.file.now).flows = omega (arith, counted (goal.at.returns-clause-wrote c).After-trailer-count) in
+    rw (← c.in-Ok.ensures.answer, ← e) (wrote_then c.put-end.ensures c.loop-f.invariant.lines)
 
-pub trailer_of-requires : goal.trailer_of-requires
-trailer_of-requires c = (done_trailed _ _ (done (goal.at.trailer_of-requires c).In-Done)).long
+pub returns-clause-upper_bound : goal.returns-clause-upper_bound
+returns-clause-upper_bound c =
+    omega (
+      arith,
+      few (goal.at.returns-clause-upper_bound c).After-trailer-count,
+      c.loop-f.invariant.room,
+      c.put-end.ensures.place,
+    )
