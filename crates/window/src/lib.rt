@@ -121,14 +121,16 @@ impl<const N: usize> Rivals<N> {
         ensures { result ≡ least_window (λ t. leb (demand_of self.now t + packets) t) }
     {
         let mut t = (self.kept.len() as u32) + packets;
-        while t <= MOST_WINDOW {
+        loop {
+            if MOST_WINDOW < t {
+                break None;
+            }
             let d = demand_of(&self.kept, t) + packets;
             if d <= t {
-                return Some(t);
+                break Some(t);
             }
             t = d;
         }
-        None
     }
 
     // The least window that the rivals leave for one packet.

@@ -10,7 +10,7 @@ loop-t-init g c = (omega arith, λ u l m. omega (arith, demand_least _ u c.self.
 
 pub overflow_add-d : goal.overflow_add-d
 overflow_add-d g c =
-    let most = demand_most _ _ c.self.invariant.1.0 c.loop-t-test.true in
+    let most = demand_most _ _ c.self.invariant.1.0 c.if-t-gt-MOST_WINDOW.false in
     omega (arith, rw c.deref.ensures.0 at c.demand_of.ensures)
 
 pub loop-t-preserved : goal.loop-t-preserved
@@ -24,5 +24,5 @@ returns-then-d-t g c =
     let inv = c.loop-t.invariant in
     rw (← c.self.view_is) (sym (least_at _ _ _ 1 _ (record { from = inv.0; to = omega arith; free = rw d at c.if-d-t.true; tried = inv.1 })))
 
-pub returns : goal.returns
-returns g c = rw (← c.self.view_is) (sym (least_none _ _ _ 1 (λ u l m. c.loop-t.invariant.1 u l (omega arith))))
+pub returns-then-t-gt-MOST_WINDOW : goal.returns-then-t-gt-MOST_WINDOW
+returns-then-t-gt-MOST_WINDOW g c = rw (← c.self.view_is) (sym (least_none _ _ _ 1 (λ u l m. c.loop-t.invariant.1 u l (omega arith))))
