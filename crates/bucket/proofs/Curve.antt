@@ -3,8 +3,9 @@
 -- compute, open the curve elsewhere.
 use mathlib.Core.Logic.{◌↔◌}
 use mathlib.Core.Path.{◌≡◌}
-use Prim.Native.Nat.{ℕ, zero, suc, ◌+◌, ◌-◌, ◌*◌, ◌≤◌, ◌<◌}
-use native.Mathlib.Nat.{div-zero, div-lt_iff_lt-mul, le_trans, mul-le-mul_right, le-mul_of_pos_right, lt_of_mul-lt-mul_right}
+use Prim.Native.Nat.{ℕ, zero, suc, ◌+◌, ◌-◌, ◌*◌, ◌/◌, ◌%◌, ◌≤◌, ◌<◌}
+use native.Mathlib.Nat.{div-zero, div-lt_iff_lt-mul, div-mul-le_self, mod-eq-sub-div-mul, mod-lt, le_trans}
+use native.Mathlib.Nat.{mul-le-mul_right, le-mul_of_pos_right, lt_of_mul-lt-mul_right, le_of_mul-le-mul_right}
 use native.Mathlib.Omega.{arith}
 use Rattle.std.specs.Int.{div_ceil}
 use Rattle.std.proofs.lemmas.Grind.{div_ceil_times}
@@ -54,6 +55,23 @@ curve_by_div burst period d p =
     let times = div_ceil_times d period p in
     let most = (ceiling_least d period (div_ceil d period) p).1 times.0 in
     let least : div_ceil d period < ceiling d period + 1 = lt_of_mul-lt-mul_right period (omega (arith, covers d period p, times.1)) in
+    omega arith
+
+-- σ and the whole periods in d, and one more where there is a part of one
+pub curve_whole : (burst period d : ℕ) → 1 ≤ period → d % period ≡ 0 → burst + d / period ≡ curve burst period d
+unfolding curve
+curve_whole burst period d p none =
+    let whole : d ≡ d / period * period = omega (arith, div-mul-le_self d period, mod-eq-sub-div-mul d period) in
+    let most = (ceiling_least d period (d / period) p).1 (omega arith) in
+    let least : d / period ≤ ceiling d period = le_of_mul-le-mul_right {k = period} (omega (arith, covers d period p)) p in
+    omega arith
+
+pub curve_part : (burst period d : ℕ) → 1 ≤ period → 1 ≤ d % period → burst + d / period + 1 ≡ curve burst period d
+unfolding curve
+curve_part burst period d p some =
+    let part = mod-eq-sub-div-mul d period in
+    let most = (ceiling_least d period (d / period + 1) p).1 (omega (arith, mod-lt d p)) in
+    let more : d / period < ceiling d period = lt_of_mul-lt-mul_right period (omega (arith, covers d period p)) in
     omega arith
 
 -- a bucket that holds under σ + 1 periods' worth and gets d more lets in no more than the curve

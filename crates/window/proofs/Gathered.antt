@@ -17,11 +17,11 @@ use Rattle.conflict.specs.Conflict.{Conflict, conflict}
 use Rattle.conflict.specs.Inner.{most_spread}
 use Rattle.conflict.proofs.Spread.{SpreadMost, none, some, spread_at, conflict_most}
 use Rattle.window.specs.declared.Rival.{Rival}
-use Rattle.window.specs.Window.{share, share_of, interference, least_window, burst_window_of}
+use Rattle.window.specs.Window.{share, share_of, interference, least_window, window_of, burst_window_of}
 use Rattle.window.specs.Rivals.{RivalOk, whole_link, rival_share, demand_of, rates_of, rival_of, keep_rival, RivalsAmong}
 use Rattle.window.proofs.Rates.{filled}
 use Rattle.window.proofs.Bursts.{goes_in}
-use Rattle.window.proofs.BurstWindows.{burst_none}
+use Rattle.window.proofs.BurstWindows.{burst_one, burst_none}
 
 -- no flows, no rivals
 pub among_none : (p : Plan) (f : ℕ) → RivalsAmong p f 0 []
@@ -44,6 +44,9 @@ module _ (p : Plan) (f m : ℕ) (rivals : List Rival) (h : RivalsAmong p f m riv
   unfolding interference
   burst_filled packets least below full =
       burst_none p f packets (λ t from to. omega (arith, filled rivals t h.ok from full, h.sum t, sum_grow (share_of p f t) m _ below))
+
+  pub among_filled : m ≤ length p.flows → whole_link ≤ rates_of rivals → window_of p f ≡ None
+  among_filled below full = sym (burst_one p f) ∙ burst_filled 1 (omega arith) below full
 
   -- a flow is no rival of its own
   pub among_self : m ≡ f → RivalsAmong p f (m + 1) rivals
