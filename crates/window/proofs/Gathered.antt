@@ -81,7 +81,7 @@ module _ (p : Plan) (f m : ℕ) (rivals : List Rival) (h : RivalsAmong p f m riv
     among_by (Some j) e (some most) =
         let g = ok.flow_ok m below in
         let fits : RivalOk (rival_of (flow_at p m) j) =
-            record { burst_least = g.burst_least; burst_most = g.burst_most; period_least = g.period_least; spread_most = most } in
+        record { burst_least = g.burst_least; burst_most = g.burst_most; period_least = g.period_least; spread_most = most } in
         record {
           few = simp length-append (omega (arith, h.few));
           ok = All-push RivalOk rivals (rival_of (flow_at p m) j) h.ok fits;
