@@ -17,6 +17,9 @@ use refusal::{Cause, Refusal};
 use std::marker::Model;
 use window::Rivals;
 
+// Room for the rivals of a flow, which are flows of its plan. One size is as fast as a smaller one for few flows beside it.
+const MOST_FLOWS: usize = plan::MOST_FLOWS as usize;
+
 // An accepted plan file with its turning rows, found once: a word of bits for each column. Seen as the file's bytes.
 #[derive(Drop)]
 pub struct Bounds<'a> {
@@ -67,18 +70,16 @@ impl Bounds<'_> {
         );
     }
 
-    // The window of so many packets of flow f, with room for its rivals. They are found once, as long as their rates leave some of the
-    // link.
-    fn burst_in<const N: usize>(&self, f: u32, packets: u32) -> Option<u32>
+    // The window B of so many packets of flow f. Its rivals are found once, as long as their rates leave some of the link.
+    pub fn burst(&self, f: u32, packets: u32) -> Option<u32>
         requires flow { f < (trailer_of self.now).count }
-        requires room { ((trailer_of self.now).count ≤ N) × (N ≤ most_flows) }
         requires packets { (1 ≤ packets) × (packets ≤ most_burst) }
         ensures { result ≡ burst_window_of (plan_of self.now) f packets }
     {
         let t = self.plan.trailer();
         let own = self.plan.flow(f);
         let port = own.port(t.sx);
-        let mut rivals = Rivals::<N>::new();
+        let mut rivals = Rivals::<MOST_FLOWS>::new();
         for g in 0..t.count {
             self.meet(f, own, port, g, &mut rivals);
             if rivals.fills_link() {
@@ -86,19 +87,6 @@ impl Bounds<'_> {
             }
         }
         rivals.least_burst(packets)
-    }
-
-    // The window B of so many packets of flow f. Few flows need little room.
-    pub fn burst(&self, f: u32, packets: u32) -> Option<u32>
-        requires flow { f < (trailer_of self.now).count }
-        requires packets { (1 ≤ packets) × (packets ≤ most_burst) }
-        ensures { result ≡ burst_window_of (plan_of self.now) f packets }
-    {
-        if self.plan.trailer().count <= 64 {
-            self.burst_in::<64>(f, packets)
-        } else {
-            self.burst_in::<256>(f, packets)
-        }
     }
 
     // The window T of flow f: that of one packet.
