@@ -29,6 +29,14 @@ pub struct Flow {
     pub burst: u32,
 }
 
+// A torus: Sx columns and Sy rows, at most 16 each.
+#[derive(Clone, Copy, Debug)]
+pub struct Torus {
+    pub sx: u32,
+    pub sy: u32,
+    ghost sized: { (sx ≤ most_size) × (sy ≤ most_size) },
+}
+
 // The router output by which a flow's packets enter.
 #[derive(Clone, Copy, Debug, PartialEq, Eq)]
 pub enum Port {
@@ -66,11 +74,11 @@ impl Offerer {
 }
 
 impl Flow {
-    // Every coordinate is on a torus of sx columns and sy rows.
-    pub fn on_torus(self, sx: u32, sy: u32) -> bool
-        ensures { result ≡ on_torus sx sy self }
+    // Every coordinate is on the torus.
+    pub fn on_torus(self, torus: Torus) -> bool
+        ensures { result ≡ on_torus torus.sx torus.sy self }
     {
-        self.xs < sx && self.ys < sy && self.xd < sx && self.yd < sy
+        self.xs < torus.sx && self.ys < torus.sy && self.xd < torus.sx && self.yd < torus.sy
     }
 
     // ΔX = (xd − xs) mod Sx. With Sx more, the difference doesn't pass below 0.

@@ -66,8 +66,7 @@ module _ (p : Plan) (f m : ℕ) (rivals : List Rival) (h : RivalsAmong p f m riv
 
     small : SpreadMost (conflict p (flow_at p f) (flow_at p m))
     small =
-        conflict_most p (flow_at p f) (flow_at p m)
-        (record { sx_most = ok.sx_most; sy_most = ok.sy_most; own = ok.flow_ok f in_plan; other = ok.flow_ok m below })
+        conflict_most p ok.sx_most ok.sy_most (flow_at p f) (flow_at p m) (record { own = ok.flow_ok f in_plan; other = ok.flow_ok m below })
 
     -- no spread of theirs is larger
     pub spread_small : (j : ℕ) → conflict p (flow_at p f) (flow_at p m) ≡ Some j → j ≤ most_spread
