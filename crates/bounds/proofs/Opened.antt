@@ -1,26 +1,17 @@
 -- What the flows of an accepted file have: their ranges, and a word of the turning rows. Rests on the laws of plan files.
 use mathlib.Core.List.{List}
-use mathlib.Core.Path.{◌≡◌, refl}
+use mathlib.Core.Path.{◌≡◌}
 use Prim.Native.Nat.{ℕ, ◌^◌, ◌≤◌, ◌<◌}
 use native.Mathlib.Omega.{arith}
 use lib.ListN.{length, get_or}
 use Rattle.flow.specs.Plan.{flow_at, most_flows}
 use Rattle.flow.specs.Ranges.{FlowOk, PlanOk}
-use Rattle.file.specs.Layout as Layout
 use Rattle.file.specs.Layout.{trailer_of, plan_of}
 use Rattle.plan.proofs.Ranges.{plan_count}
 use Rattle.turning.specs.Columns.{TurningIn}
 use Rattle.conflict.specs.Inner.{Pair}
 
 module _ (file : List ℕ) where
-  pub trailer_sx : (trailer_of file).sx ≡ (plan_of file).sx
-  unfolding Layout.plan_of
-  trailer_sx = refl
-
-  pub trailer_sy : (trailer_of file).sy ≡ (plan_of file).sy
-  unfolding Layout.plan_of
-  trailer_sy = refl
-
   module _ (ok : PlanOk (plan_of file)) where
     pub few : (trailer_of file).count ≤ most_flows
     few = omega (arith, plan_count file, ok.flows_most)
@@ -32,7 +23,7 @@ module _ (file : List ℕ) where
       pub flow_pair : (g : ℕ) → g < (trailer_of file).count
           → let p = plan_of file in Pair p.sx p.sy (flow_at p f) (flow_at p g)
       flow_pair g l =
-          record { sx_most = ok.sx_most; sy_most = ok.sy_most; own = flow_fits_lem; other = ok.flow_ok g (rw (plan_count file) l) }
+          record { own = flow_fits_lem; other = ok.flow_ok g (rw (plan_count file) l) }
 
       -- the columns' words have one for the flow's destination column, with a bit for each row
       module _ (columns : List ℕ) (tell : TurningIn (plan_of file) columns) where

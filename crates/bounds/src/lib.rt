@@ -26,6 +26,7 @@ pub struct Bounds<'a> {
 
 impl<'a> Model for Bounds<'a> {
     ghost use Rattle.std.specs.Prelude.{List, ℕ};
+    ghost use Rattle.flow.specs.Ranges.{PlanOk};
     ghost use Rattle.file.specs.Layout.{plan_of};
     ghost use Rattle.turning.specs.Columns.{TurningIn};
 
@@ -33,7 +34,7 @@ impl<'a> Model for Bounds<'a> {
 
     ghost view = { λ b. b.plan.now };
 
-    ghost invariant = { λ b. TurningIn (plan_of b.plan.now) b.columns };
+    ghost invariant = { λ b. PlanOk (plan_of b.plan.now) × TurningIn (plan_of b.plan.now) b.columns };
 }
 
 impl Bounds<'_> {
@@ -58,12 +59,11 @@ impl Bounds<'_> {
         if g == f {
             return;
         }
-        let t = self.plan.trailer();
         let other = self.plan.flow(g);
         let word = self.columns[other.xd as usize];
         rivals.keep(
             other,
-            conflict::conflict_of(t.sx, t.sy, word, own, port, other),
+            conflict::conflict_of(self.plan.torus(), word, own, port, other),
         );
     }
 
@@ -75,11 +75,10 @@ impl Bounds<'_> {
         requires packets { (1 ≤ packets) × (packets ≤ most_burst) }
         ensures { result ≡ burst_window_of (plan_of self.now) f packets }
     {
-        let t = self.plan.trailer();
         let own = self.plan.flow(f);
-        let port = own.port(t.sx);
+        let port = own.port(self.plan.torus().sx);
         let mut rivals = Rivals::<N>::new();
-        for g in 0..t.count {
+        for g in 0..self.plan.trailer().count {
             self.meet(f, own, port, g, &mut rivals);
             if rivals.fills_link() {
                 return None;
@@ -114,9 +113,9 @@ impl Bounds<'_> {
         requires { f < (trailer_of self.now).count }
         ensures { result ≡ flight_bound_of (plan_of self.now) f }
     {
-        let t = self.plan.trailer();
         let flow = self.plan.flow(f);
-        flight::flight_bound(t.sx, t.sy, self.columns[flow.xd as usize], flow)
+        let word = self.columns[flow.xd as usize];
+        flight::flight_bound(self.plan.torus(), word, flow)
     }
 }
 

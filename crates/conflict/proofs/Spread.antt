@@ -38,13 +38,13 @@ either : (b : Bool) {c d : Conflict} → SpreadMost c → SpreadMost d → Sprea
 either true h k = h
 either false h k = k
 
-module _ (sx sy : ℕ) (f g : Flow) (h : Pair sx sy f g) where
+module _ (sx sy : ℕ) (narrow : sx ≤ most_size) (short : sy ≤ most_size) (f g : Flow) (h : Pair sx sy f g) where
   rows_below : rows_to sy f g < sy
   rows_below = offset_below sy g.ys f.ys h.other.ys_on h.own.ys_on
 
   module _ (turns : ℕ → Bool) where
     few_laps : (r : ℕ) → r ≤ sy → laps sx sy turns g r ≤ most_spread
-    few_laps = laps_most sx sy h.sx_most h.sy_most turns g
+    few_laps = laps_most sx sy narrow short turns g
 
     east_most : SpreadMost (conflict_east sx sy turns f g)
     unfolding conflict_east
@@ -65,6 +65,6 @@ module _ (sx sy : ℕ) (f g : Flow) (h : Pair sx sy f g) where
         (elim (test (ltb 0 (ΔX sx f))) [ inl east ↦ rw east east_most | inr south ↦ rw south south_spread ])
 
 -- the spread of two flows of a plan is small
-pub conflict_most : (p : Plan) (f g : Flow) → Pair p.sx p.sy f g → SpreadMost (conflict p f g)
+pub conflict_most : (p : Plan) → p.sx ≤ most_size → p.sy ≤ most_size → (f g : Flow) → Pair p.sx p.sy f g → SpreadMost (conflict p f g)
 unfolding conflict
-conflict_most p f g h = spread_most p.sx p.sy f g h (is_turning p g.xd)
+conflict_most p narrow short f g h = spread_most p.sx p.sy narrow short f g h (is_turning p g.xd)

@@ -1,13 +1,10 @@
 -- What inner functions ask of two flows, and how large a spread can be. No call's promise names these.
-use Rattle.std.specs.Prelude.{ℕ, ◌≤◌}
+use Rattle.std.specs.Prelude.{ℕ}
 use Rattle.flow.specs.declared.Flow.{Flow}
-use Rattle.flow.specs.Plan.{most_size}
 use Rattle.flow.specs.Ranges.{FlowOk}
 
 -- two flows of one plan, as far as their conflict goes
 pub record Pair (sx sy : ℕ) (f g : Flow) : Type 0 where
-  pub sx_most : sx ≤ most_size
-  pub sy_most : sy ≤ most_size
   pub own : FlowOk sx sy f
   pub other : FlowOk sx sy g
 

@@ -10,7 +10,7 @@ ghost use Rattle.plan.specs.Refusals.{trailer_number, header_number, size_ok, re
 ghost use Rattle.plan.specs.Notes.{notes_of};
 
 use file::Trailer;
-use flow::Flow;
+use flow::{Flow, Torus};
 use refusal::{Cause, Refusal};
 use std::marker::Model;
 
@@ -47,11 +47,12 @@ pub fn size_ok(s: u32) -> bool
     1 <= s && s <= MOST_SIZE
 }
 
-// What sizes, count and start are refused for.
+// What sizes, count and start are refused for, or the torus of these sizes.
 #[tactic(auto, unfolding(crate::specs::Refusals::header_number))]
-fn check_header(t: Trailer, length: usize) -> Result<(), Cause>
+fn check_header(t: Trailer, length: usize) -> Result<Torus, Cause>
     requires { trailer_size ≤ length }
-    ensures { number_in result ≡ header_number t length }
+    ensures number { number_in result ≡ header_number t length }
+    ensures torus { IfOk result (λ torus. (torus.sx ≡ t.sx) × (torus.sy ≡ t.sy)) }
 {
     if !(size_ok(t.sx) && size_ok(t.sy)) {
         return Err(Cause::TorusSize);
@@ -62,13 +63,14 @@ fn check_header(t: Trailer, length: usize) -> Result<(), Cause>
     if (t.start as usize) + file::RECORD_SIZE * (t.count as usize) != length - file::TRAILER_SIZE {
         return Err(Cause::Start);
     }
-    Ok(())
+    Ok(Torus { sx: t.sx, sy: t.sy })
 }
 
-// What a file is refused for before its records.
+// What a file is refused for before its records, or its torus.
 #[tactic(auto, unfolding(crate::specs::Refusals::trailer_number))]
-fn check_trailer(file: &[u8]) -> Result<(), Cause>
-    ensures { number_in result ≡ trailer_number file.now }
+fn check_trailer(file: &[u8]) -> Result<Torus, Cause>
+    ensures number { number_in result ≡ trailer_number file.now }
+    ensures torus { IfOk result (λ torus. (torus.sx ≡ (trailer_of file.now).sx) × (torus.sy ≡ (trailer_of file.now).sy)) }
 {
     let length = file.len();
     if length < file::TRAILER_SIZE || file::MOST_FILE < length {
@@ -82,10 +84,10 @@ fn check_trailer(file: &[u8]) -> Result<(), Cause>
 
 // What a record is refused for.
 #[tactic(auto, unfolding(crate::specs::Refusals::record_number))]
-fn check_record(sx: u32, sy: u32, f: Flow) -> Result<(), Cause>
-    ensures { number_in result ≡ record_number sx sy f }
+fn check_record(torus: Torus, f: Flow) -> Result<(), Cause>
+    ensures { number_in result ≡ record_number torus.sx torus.sy f }
 {
-    if !f.on_torus(sx, sy) {
+    if !f.on_torus(torus) {
         return Err(Cause::OffTorus);
     }
     if f.period == 0 || f.burst == 0 {
@@ -95,14 +97,15 @@ fn check_record(sx: u32, sy: u32, f: Flow) -> Result<(), Cause>
 }
 
 // The first refused record, if there is one.
-fn check_records(file: &[u8], t: Trailer) -> Result<(), Refusal>
+fn check_records(file: &[u8], t: Trailer, torus: Torus) -> Result<(), Refusal>
+    requires torus { (torus.sx ≡ t.sx) × (torus.sy ≡ t.sy) }
     requires count_in_bounds { t.start + record_size * t.count ≤ length file.now }
     requires count_le_most_flows { t.count ≤ most_flows }
     ensures { told result ≡ records_answer file.now t }
 {
     for f in 0..t.count {
         let at = (t.start as usize) + file::RECORD_SIZE * (f as usize);
-        if let Err(cause) = check_record(t.sx, t.sy, file::flow_from(file, at)) {
+        if let Err(cause) = check_record(torus, file::flow_from(file, at)) {
             return Err(cause.at(f));
         }
     }
@@ -115,9 +118,9 @@ impl PlanFile<'_> {
         ensures answer { answer_with (λ file. 0) result ≡ plan_answer bytes.now }
         ensures file { IfOk result (λ file. file ≡ bytes.now) }
     {
-        check_trailer(bytes)?;
+        let torus = check_trailer(bytes)?;
         let trailer = file::trailer_of(bytes);
-        check_records(bytes, trailer)?;
+        check_records(bytes, trailer, torus)?;
         Ok(PlanFile { bytes, trailer })
     }
 
@@ -128,6 +131,19 @@ impl PlanFile<'_> {
         ensures plan_ok { PlanOk (plan_of self.now) }
     {
         self.trailer
+    }
+
+    // The torus of its Sx and Sy.
+    #[tactic(auto, unfolding(file::specs::Layout::plan_of))]
+    pub fn torus(&self) -> Torus
+        ensures value { (result.sx ≡ (trailer_of self.now).sx) × (result.sy ≡ (trailer_of self.now).sy) }
+        ensures plan { (result.sx ≡ (plan_of self.now).sx) × (result.sy ≡ (plan_of self.now).sy) }
+        ensures plan_ok { PlanOk (plan_of self.now) }
+    {
+        Torus {
+            sx: self.trailer.sx,
+            sy: self.trailer.sy,
+        }
     }
 
     // Flow number f.

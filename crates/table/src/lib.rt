@@ -120,7 +120,7 @@ fn line(plan: &PlanFile, bounds: &Bounds, f: u32) -> LineText
     ensures { result ≡ line (plan_of plan.now) f }
 {
     let flow = plan.flow(f);
-    let port = flow.port(plan.trailer().sx);
+    let port = flow.port(plan.torus().sx);
     row(f, flow, port, bounds.window(f), bounds.flight(f))
 }
 

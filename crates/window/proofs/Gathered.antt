@@ -63,8 +63,7 @@ module _ (p : Plan) (f m : ℕ) (rivals : List Rival) (h : RivalsAmong p f m riv
 
     small : SpreadMost (conflict p (flow_at p f) (flow_at p m))
     small =
-        conflict_most p (flow_at p f) (flow_at p m)
-        (record { sx_most = ok.sx_most; sy_most = ok.sy_most; own = ok.flow_ok f in_plan; other = ok.flow_ok m below })
+        conflict_most p ok.sx_most ok.sy_most (flow_at p f) (flow_at p m) (record { own = ok.flow_ok f in_plan; other = ok.flow_ok m below })
 
     -- no spread of theirs is larger
     pub spread_small : (j : ℕ) → conflict p (flow_at p f) (flow_at p m) ≡ Some j → j ≤ most_spread
@@ -78,7 +77,7 @@ module _ (p : Plan) (f m : ℕ) (rivals : List Rival) (h : RivalsAmong p f m riv
     among_by (Some j) e (some most) =
         let g = ok.flow_ok m below in
         let fits : RivalOk (rival_of (flow_at p m) j) =
-            record { burst_least = g.burst_least; burst_most = g.burst_most; period_least = g.period_least; spread_most = most } in
+        record { burst_least = g.burst_least; burst_most = g.burst_most; period_least = g.period_least; spread_most = most } in
         record {
           few = simp length-append (omega (arith, h.few));
           ok = All-push RivalOk rivals (rival_of (flow_at p m) j) h.ok fits;

@@ -11,11 +11,11 @@ loop-f-init c = first_none _
 pub returns-in-Err : goal.returns-in-Err
 unfolding flow_number
 returns-in-Err c =
-    rw c.at.ensures (cause_first _ _ _ c.in-Err.cause c.loop-f-test.true c.loop-f.invariant (rw (← c.flow_from.ensures) c.in-Err.ensures))
+    rw c.at.ensures (cause_first _ _ _ c.in-Err.cause c.loop-f-test.true c.loop-f.invariant (rw (← c.flow_from.ensures, ← c.requires.torus.0, ← c.requires.torus.1) c.in-Err.ensures))
 
 pub loop-f-preserved : goal.loop-f-preserved
 unfolding flow_number
-loop-f-preserved c = first_more _ _ c.loop-f.invariant (rw (← c.flow_from.ensures) (sym c.in_default.ensures))
+loop-f-preserved c = first_more _ _ c.loop-f.invariant (rw (← c.flow_from.ensures, ← c.requires.torus.0, ← c.requires.torus.1) (sym c.in_default.ensures))
 
 pub returns : goal.returns
 returns c =

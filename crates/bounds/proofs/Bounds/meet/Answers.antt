@@ -9,7 +9,7 @@ use Rattle.turning.specs.Columns.{TurningIn}
 use Rattle.conflict.specs.Conflict.{conflict}
 use Rattle.conflict.proofs.Told.{conflict_told}
 use Rattle.window.proofs.Gathered.{among_self, among_more, spread_small}
-use Rattle.bounds.proofs.Opened.{flow_fits_lem, flow_pair, word_small, trailer_sx, trailer_sy}
+use Rattle.bounds.proofs.Opened.{flow_fits_lem, flow_pair, word_small}
 use Rattle.bounds.proofs.Bounds.meet.Given as given
 use Rattle.bounds.proofs.Bounds.meet.Goals as goal
 use Rattle.bounds.proofs.Bounds.meet.Goals.{After-conflict_of, After-flow-other}
@@ -20,31 +20,31 @@ returns-then-g-f g c = among_self _ _ _ _ c.requires.rivals_among c.if-g-f.true
 pub conflict_of-requires-clause-pair : goal.conflict_of-requires-clause-pair
 conflict_of-requires-clause-pair g c =
     let file = c.args.self.now in
-    let ok : PlanOk (plan_of file) = rw c.self.view_is at c.trailer-t.ensures.plan_ok in
-    let tell : TurningIn (plan_of file) c.self.inside.columns = rw c.self.view_is at c.self.invariant in
+    let ok : PlanOk (plan_of file) = rw c.self.view_is at c.self.invariant.0 in
+    let tell : TurningIn (plan_of file) c.self.inside.columns = rw c.self.view_is at c.self.invariant.1 in
     let p = c.requires.flows in
-    rw (c.trailer-t.ensures.value, c.flow-other.ensures, c.self.view_is, c.requires.own_value.0, trailer_sx file, trailer_sy file)
+    rw (c.torus.ensures.plan.0, c.torus.ensures.plan.1, c.flow-other.ensures, c.self.view_is, c.requires.own_value.0)
     (flow_pair file ok _ p.0 _ p.1, word_small file ok _ p.1 _ tell)
 
 pub conflict_of-requires-clause-port_value : goal.conflict_of-requires-clause-port_value
 conflict_of-requires-clause-port_value g c =
-    rw (c.trailer-t.ensures.value, c.self.view_is, trailer_sx c.args.self.now) c.requires.own_value.1
+    rw (c.torus.ensures.plan.0, c.self.view_is) c.requires.own_value.1
 
 -- the conflict of the two flows of the plan
 met : (g : given.Over) (c : After-conflict_of g) → let p = plan_of c.args.self.now in
     c.conflict_of.result ≡ conflict p (flow_at p c.args.f) (flow_at p c.args.g)
 met g c =
     let file = c.args.self.now in
-    let ok : PlanOk (plan_of file) = rw c.self.view_is at c.trailer-t.ensures.plan_ok in
-    let tell : TurningIn (plan_of file) c.self.inside.columns = rw c.self.view_is at c.self.invariant in
+    let ok : PlanOk (plan_of file) = rw c.self.view_is at c.self.invariant.0 in
+    let tell : TurningIn (plan_of file) c.self.inside.columns = rw c.self.view_is at c.self.invariant.1 in
     let p = c.requires.flows in
-    rw (c.conflict_of.ensures, c.trailer-t.ensures.value, c.flow-other.ensures, c.self.view_is, c.requires.own_value.0, trailer_sx file, trailer_sy file)
+    rw (c.conflict_of.ensures, c.torus.ensures.plan.0, c.torus.ensures.plan.1, c.flow-other.ensures, c.self.view_is, c.requires.own_value.0)
     (conflict_told _ _ tell _ _ (flow_pair file ok _ p.0 _ p.1))
 
 pub keep-requires : goal.keep-requires
 keep-requires g c =
     let file = c.args.self.now in
-    let ok : PlanOk (plan_of file) = rw c.self.view_is at c.trailer-t.ensures.plan_ok in
+    let ok : PlanOk (plan_of file) = rw c.self.view_is at c.self.invariant.0 in
     let p = c.requires.flows in
     let count = plan_count file in
     let fits = flow_fits_lem file ok _ p.1 in
@@ -58,7 +58,7 @@ keep-requires g c =
 pub returns : goal.returns
 returns g c =
     let file = c.args.self.now in
-    let ok : PlanOk (plan_of file) = rw c.self.view_is at c.trailer-t.ensures.plan_ok in
+    let ok : PlanOk (plan_of file) = rw c.self.view_is at c.self.invariant.0 in
     let p = c.requires.flows in
     let other = rw c.self.view_is at c.flow-other.ensures in
     let count = plan_count file in

@@ -13,7 +13,7 @@ invariant_of-result c =
     let count = plan_count c.args.plan.now in
     let read = c.trailer-f-end.ensures.value in
     let all : c.loop-f.f ≡ length (plan_of c.args.plan.now).flows = omega (arith, rw read at c.loop-f-test.false, rw read at c.loop-f.auto.f-end) in
-    told_all _ _ (rw all at c.loop-f.invariant.1)
+    (c.trailer-f-end.ensures.plan_ok, told_all _ _ (rw all at c.loop-f.invariant.1))
 
 pub loop-f-init : goal.loop-f-init
 loop-f-init c = (refl, told_none _ 16 (omega (arith, c.trailer-f-end.ensures.plan_ok.sx_most)))
