@@ -1,7 +1,5 @@
 -- `put_reset`: the three runs of stores leave the reset state's words.
-use Prim.Native.Nat.{◌≤◌}
 use native.Mathlib.Omega.{arith}
-use Rattle.flow.specs.Plan.{most_flows}
 use Rattle.plan.proofs.Accepted.{done_trailed}
 use Rattle.reset.proofs.Fresh.{size_is, file_sets}
 use Rattle.reset.proofs.put_reset.Goals as goal
@@ -14,7 +12,7 @@ flow_place-requires c = rw (← c.trailer-t.ensures.value) at (done_trailed _ 0 
 
 pub clear-requires : goal.clear-requires
 clear-requires c =
-    let size = rw (← c.torus-torus.ensures.0, ← c.torus-torus.ensures.1, ← c.trailer-t.ensures.value) at (size_is c.args.plan.now) in
+    let size = rw (← c.torus-torus.ensures.value.0, ← c.torus-torus.ensures.value.1, ← c.trailer-t.ensures.value) at (size_is c.args.plan.now) in
     rw c.flow_place.ensures (omega (arith, size, c.put_flows.auto.w, c.put_header.auto.w))
 
 pub returns : goal.returns
@@ -24,8 +22,8 @@ returns c =
       c.flow_place.ensures,
       c.put_flows.ensures,
       c.put_header.ensures,
-      c.torus-torus.ensures.0,
-      c.torus-torus.ensures.1,
+      c.torus-torus.ensures.value.0,
+      c.torus-torus.ensures.value.1,
       c.trailer-t.ensures.value,
     )
     (file_sets c.args.plan.now c.args.w.now c.requires)

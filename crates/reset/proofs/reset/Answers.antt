@@ -1,7 +1,6 @@
 -- `reset`: a refused file changes nothing; of an accepted one the size decides 8, or the reset state is written.
 use mathlib.Core.Path.{◌≡◌, ◌∙◌}
 use borrow.Author.Tests.{lt-ltb, le-ltb}
-use lib.ListN.{length}
 use Rattle.std.specs.Prelude.{Result, Ok, Err, IsErrAnd}
 use Rattle.refusal.specs.declared.Refusal.{Refusal}
 use Rattle.refusal.specs.Cause.{cause_number}
@@ -26,7 +25,7 @@ accepted c = rw c.in_ok-plan.ensures.file at c.trailer.ensures.accepted
 
 -- the size is that of its plan's state
 sized : (c : goal.After-size) → plan_size (plan_of c.args.file.now) ≡ c.size.result
-sized c = rw (← c.in_ok-plan.ensures.file) (size_is _ ∙ rw (← c.torus.ensures.0, ← c.torus.ensures.1, ← c.trailer.ensures.value, c.size.ensures))
+sized c = rw (← c.in_ok-plan.ensures.file) (size_is _ ∙ rw (← c.torus.ensures.value.0, ← c.torus.ensures.value.1, ← c.trailer.ensures.value, c.size.ensures))
 
 pub returns-in_err-plan : goal.returns-in_err-plan
 unfolding reset_on unless_refused
