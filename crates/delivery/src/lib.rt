@@ -9,7 +9,7 @@ ghost use Rattle.state.specs.Read.{plan_in};
 ghost use Rattle.delivery.specs.Groups.{groups_of, impossible, strange};
 ghost use Rattle.delivery.specs.Inner.{as_told, group_in};
 
-use flow::Flow;
+use flow::{Flow, Torus};
 use state::StateWords;
 
 // What an exit writes: a packet's flow, its serial, the cycles of its entry and its exit, and its deflections.
@@ -46,20 +46,20 @@ pub fn whole_groups(deliveries: &[u32]) -> &[[u32; cycle::EXIT_SIZE]]
 }
 
 // No packet of flow f is delivered so.
-fn impossible(sx: u32, sy: u32, f: Flow, d: Delivery) -> bool
-    requires { (FlowOk sx sy f) × ((sx ≤ most_size) × (sy ≤ most_size)) }
-    ensures { result ≡ impossible sx sy f d.entry d.exit d.deflections }
+fn impossible(torus: Torus, f: Flow, d: Delivery) -> bool
+    requires { FlowOk torus.sx torus.sy f }
+    ensures { result ≡ impossible torus.sx torus.sy f d.entry d.exit d.deflections }
 {
-    let dy = f.offset_y(sy);
+    let dy = f.offset_y(torus.sy);
     dy < d.deflections
-        || d.exit.checked_sub(d.entry) != Some(f.offset_x(sx) + dy + d.deflections * sx)
+        || d.exit.checked_sub(d.entry) != Some(f.offset_x(torus.sx) + dy + d.deflections * torus.sx)
 }
 
 // A delivery is of no flow in the plan, or is impossible for its flow.
 fn strange(state: &StateWords, d: Delivery) -> bool
     ensures { result ≡ strange (plan_in state.now) (as_told d) }
 {
-    state.flows() <= d.flow || impossible(state.sx(), state.sy(), state.flow(d.flow), d)
+    state.flows() <= d.flow || impossible(state.torus(), state.flow(d.flow), d)
 }
 
 // Some delivery is strange to the plan.

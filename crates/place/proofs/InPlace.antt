@@ -14,7 +14,7 @@ use Rattle.flow.specs.declared.Flow.{Flow}
 use Rattle.flow.specs.Offsets.{ΔX, ΔY}
 use Rattle.flow.specs.Plan.{most_size}
 use Rattle.flow.specs.Ranges.{FlowOk}
-use Rattle.place.specs.Place.{Place, W, N}
+use Rattle.place.specs.Place.{W, N}
 use Rattle.place.specs.InPlace.{is_in_place, in_north, in_first_row, in_later_row, rows_done}
 
 -- D×Sx for at most 16 deflections

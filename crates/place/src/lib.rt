@@ -8,7 +8,7 @@ ghost use Rattle.flow.specs.Ranges.{FlowOk};
 ghost use Rattle.place.specs.InPlace.{in_north, in_first_row, in_later_row, is_in_place};
 ghost use Rattle.place.specs.Input.{place_of};
 
-use flow::Flow;
+use flow::{Flow, Torus};
 
 // The input of a router that a link register feeds.
 #[derive(Clone, Copy, Debug, PartialEq, Eq)]
@@ -20,13 +20,11 @@ pub enum Input {
 // A flow on its torus, both in 01's ranges, with its ΔX.
 #[derive(Clone, Copy, Debug)]
 pub struct Course {
-    pub sx: u32,
-    pub sy: u32,
+    pub torus: Torus,
     pub flow: Flow,
     pub dx: u32,
-    ghost flow_ok: { FlowOk sx sy flow },
-    ghost offset: { dx ≡ ΔX sx flow },
-    ghost sizes: { (sx ≤ most_size) × (sy ≤ most_size) },
+    ghost flow_ok: { FlowOk torus.sx torus.sy flow },
+    ghost offset: { dx ≡ ΔX torus.sx flow },
 }
 
 impl Course {
@@ -34,43 +32,46 @@ impl Course {
     #[tactic(auto, using(torus::proofs::Axis::offset_below, crate::proofs::InPlace::rounds_most))]
     fn in_north(self, x: u32, r: u32, d: u32, e: u32) -> bool
         requires { r ≤ most_size }
-        ensures { result ≡ in_north self.sx self.sy self.flow x r d e }
+        ensures { result ≡ in_north self.torus.sx self.torus.sy self.flow x r d e }
     {
         x == self.flow.xd
             && 1 <= r
-            && r <= self.flow.offset_y(self.sy)
+            && r <= self.flow.offset_y(self.torus.sy)
             && d <= r - 1
-            && e == self.dx + r + d * self.sx
+            && e == self.dx + r + d * self.torus.sx
     }
 
     // In W of column x, in the source's row.
     fn in_first_row(self, x: u32, d: u32, e: u32) -> bool
-        requires { x < self.sx }
-        ensures { result ≡ in_first_row self.sx self.flow x d e }
+        requires { x < self.torus.sx }
+        ensures { result ≡ in_first_row self.torus.sx self.flow x d e }
     {
-        let j = torus::offset(self.sx, self.flow.xs, x);
+        let j = torus::offset(self.torus.sx, self.flow.xs, x);
         1 <= j && j <= self.dx && d == 0 && e == j
     }
 
     // In W of column x, r rows south of the source's row.
     #[tactic(auto, using(torus::proofs::Axis::offset_below, torus::proofs::Axis::lap_most, crate::proofs::InPlace::rounds_most))]
     fn in_later_row(self, x: u32, r: u32, d: u32, e: u32) -> bool
-        requires { (x < self.sx) × (r ≤ most_size) }
-        ensures { result ≡ in_later_row self.sx self.sy self.flow x r d e }
+        requires { (x < self.torus.sx) × (r ≤ most_size) }
+        ensures { result ≡ in_later_row self.torus.sx self.torus.sy self.flow x r d e }
     {
-        r <= self.flow.offset_y(self.sy)
+        r <= self.flow.offset_y(self.torus.sy)
             && 1 <= d
             && d <= r
-            && e == self.dx + r + (d - 1) * self.sx + torus::lap(self.sx, self.flow.xd, x)
+            && e == self.dx
+                + r
+                + (d - 1) * self.torus.sx
+                + torus::lap(self.torus.sx, self.flow.xd, x)
     }
 
     // A packet of the flow may be at this input of the router, e cycles after its entry and with d deflections.
     #[tactic(auto, using(torus::proofs::Axis::offset_below), unfolding(crate::specs::InPlace::is_in_place))]
     pub fn in_place(self, input: Input, x: u32, y: u32, d: u32, e: u32) -> bool
-        requires { (x < self.sx) × (y < self.sy) }
-        ensures { result ≡ is_in_place self.sx self.sy self.flow (place_of input x y) d e }
+        requires { (x < self.torus.sx) × (y < self.torus.sy) }
+        ensures { result ≡ is_in_place self.torus.sx self.torus.sy self.flow (place_of input x y) d e }
     {
-        let r = torus::offset(self.sy, self.flow.ys, y);
+        let r = torus::offset(self.torus.sy, self.flow.ys, y);
         1 <= e
             && match input {
                 Input::North => self.in_north(x, r, d, e),

@@ -63,8 +63,7 @@ impl<'a> FlowWords<'a> {
     {
         let f = packet.flow as usize;
         let course = Course {
-            sx: self.words[state::SX],
-            sy: self.words[state::SY],
+            torus: state::torus_in(self.words),
             flow: state::flow_in(self.words, state::flow_place(f)),
             dx: u32::from(self.dxs[f]),
         };

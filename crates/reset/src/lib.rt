@@ -73,12 +73,13 @@ fn put_reset(plan: &PlanFile, w: &mut [u32])
     ensures { w.new ≡ over (state_words (reset_state (plan_of plan.now))) w.old }
 {
     let t = plan.trailer();
+    let torus = plan.torus();
     put_header(w, t);
     put_flows(plan, w);
     clear(
         w,
         state::flow_place(t.count as usize),
-        (t.sx * t.sy) as usize,
+        (torus.sx * torus.sy) as usize,
     );
 }
 
@@ -87,8 +88,7 @@ pub fn reset(file: &[u8], state: &mut [u32]) -> Result<(), Refusal>
     ensures { outcome (told result) state.new ≡ reset_on file.now state.old }
 {
     let plan = PlanFile::open(file)?;
-    let t = plan.trailer();
-    if state.len() < state::size(t.count as usize, t.sx, t.sy) {
+    if state.len() < state::size(plan.trailer().count as usize, plan.torus()) {
         return Err(Cause::StateShort.into());
     }
     put_reset(&plan, state);

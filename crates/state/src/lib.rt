@@ -10,10 +10,10 @@ ghost use Rattle.state.specs.Inner.{most_routers, flow_of};
 ghost use Rattle.state.specs.Words.{number_words, tally_words, register_words};
 ghost use Rattle.state.specs.State.{tally_at, cell_at};
 ghost use Rattle.state.specs.Read.{sx_in, sy_in, count_in, clock_in, flow_in, tally_in, register_in, cell_in, state_of};
-ghost use Rattle.state.specs.Facts.{StateFacts};
+ghost use Rattle.state.specs.Facts.{HeaderFacts, StateFacts};
 
 use bucket::Bucket;
-use flow::Flow;
+use flow::{Flow, Torus};
 use std::marker::Model;
 
 // The words in front of the flows: Sx, Sy, F, clock, four zeros.
@@ -117,6 +117,14 @@ impl StateWords<'_> {
         self.words[SY]
     }
 
+    // Sx columns and Sy rows.
+    pub fn torus(&self) -> Torus
+        ensures sizes { (result.sx ≡ sx_in self.now) × (result.sy ≡ sy_in self.now) }
+        ensures facts { StateFacts self.now }
+    {
+        torus_in(self.words)
+    }
+
     // The count of flows F.
     pub fn flows(&self) -> u32
         ensures value { result ≡ count_in self.now }
@@ -190,12 +198,22 @@ pub fn router_place(flows: usize, sx: u32, x: u32, y: u32) -> usize
 }
 
 // The words of a state.
-pub fn size(flows: usize, sx: u32, sy: u32) -> usize
-    requires flows_le_most_flows { flows ≤ most_flows }
-    requires sx_le_most_size { (sx ≤ most_size) × (sy ≤ most_size) }
-    ensures { result ≡ state_size flows sx sy }
+pub fn size(flows: usize, torus: Torus) -> usize
+    requires { flows ≤ most_flows }
+    ensures { result ≡ state_size flows torus.sx torus.sy }
 {
-    flow_place(flows) + ROUTER_SIZE * ((sx * sy) as usize)
+    flow_place(flows) + ROUTER_SIZE * ((torus.sx * torus.sy) as usize)
+}
+
+// The torus of a header that fits.
+pub fn torus_in(w: &[u32]) -> Torus
+    requires { (header_size ≤ length w.now) × HeaderFacts w.now }
+    ensures { (result.sx ≡ sx_in w.now) × (result.sy ≡ sy_in w.now) }
+{
+    Torus {
+        sx: w[SX],
+        sy: w[SY],
+    }
 }
 
 // The six plan numbers of the flow at a place.

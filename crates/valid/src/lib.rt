@@ -10,7 +10,7 @@ ghost use Rattle.state.specs.Read.{sx_in, count_in, flow_in};
 ghost use Rattle.state.specs.Forms.{header_fits, numbers_fit, tally_fits, flow_fits, rest_fits, size_in, state_number};
 ghost use Rattle.state.specs.Facts.{HeaderFacts, Headed, FlowOf};
 
-use flow::Flow;
+use flow::{Flow, Torus};
 use refusal::Cause;
 use registers::FlowWords;
 use state::{StateWords, Tally};
@@ -29,10 +29,10 @@ fn header_fits(w: &[u32]) -> bool
 
 // A flow's plan numbers lie in their ranges.
 #[tactic(auto, unfolding(state::specs::Forms::numbers_fit))]
-fn numbers_fit(sx: u32, sy: u32, f: Flow) -> bool
-    ensures { result ≡ numbers_fit sx sy f }
+fn numbers_fit(torus: Torus, f: Flow) -> bool
+    ensures { result ≡ numbers_fit torus.sx torus.sy f }
 {
-    f.on_torus(sx, sy)
+    f.on_torus(torus)
         && registers::in_range(f.period, flow::MOST_PERIOD)
         && registers::in_range(f.burst, flow::MOST_BURST)
 }
@@ -53,7 +53,7 @@ fn flow_fits(w: &[u32], f: usize) -> bool
 {
     let at = state::flow_place(f);
     let flow = state::flow_in(w, at);
-    numbers_fit(w[state::SX], w[state::SY], flow)
+    numbers_fit(state::torus_in(w), flow)
         && tally_fits(w[state::CLOCK], flow, state::tally_in(w, at))
 }
 
@@ -100,7 +100,7 @@ fn size_in(w: &[u32]) -> usize
     requires { (header_size ≤ length w.now) × HeaderFacts w.now }
     ensures { result ≡ size_in w.now }
 {
-    state::size(w[state::FLOWS] as usize, w[state::SX], w[state::SY])
+    state::size(w[state::FLOWS] as usize, state::torus_in(w))
 }
 
 // What every call on a state refuses first: nothing where the words form one.

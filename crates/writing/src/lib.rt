@@ -14,7 +14,7 @@ ghost use Rattle.state.specs.Outcome.{outcome, over};
 ghost use Rattle.state.specs.Writing.{bytes_on, write_on};
 ghost use Rattle.writing.specs.Parts.{records_in, trailer_from, file_size};
 
-use flow::Flow;
+use flow::{Flow, Torus};
 use refusal::{Cause, Refusal};
 use state::StateWords;
 
@@ -59,22 +59,20 @@ fn put_records(state: &StateWords, target: &mut [u8], start: usize)
 }
 
 // F, Sx and Sy.
-fn size_bytes(count: u32, sx: u32, sy: u32) -> [u8; 4]
-    requires { (sx ≤ most_size) × (sy ≤ most_size) }
-    ensures { result ≡ two_bytes count ++ (sx ∷ sy ∷ []) }
+fn size_bytes(count: u32, torus: Torus) -> [u8; 4]
+    ensures { result ≡ two_bytes count ++ (torus.sx ∷ torus.sy ∷ []) }
 {
     let c = count.to_le_bytes();
-    [c[0], c[1], sx as u8, sy as u8]
+    [c[0], c[1], torus.sx as u8, torus.sy as u8]
 }
 
 // Writes the trailer at a place.
-fn put_trailer(target: &mut [u8], at: usize, start: u32, count: u32, sx: u32, sy: u32)
-    requires trailer_size_in_bounds { at + trailer_size ≤ length target.old }
-    requires sx_le_most_size { (sx ≤ most_size) × (sy ≤ most_size) }
-    ensures { target.new ≡ sets target.old at (trailer_from start count sx sy) }
+fn put_trailer(target: &mut [u8], at: usize, start: u32, count: u32, torus: Torus)
+    requires { at + trailer_size ≤ length target.old }
+    ensures { target.new ≡ sets target.old at (trailer_from start count torus.sx torus.sy) }
 {
     put(target, at, &start.to_le_bytes());
-    put(target, at + 4, &size_bytes(count, sx, sy));
+    put(target, at + 4, &size_bytes(count, torus));
     put(target, at + 8, b"HRTP");
 }
 
@@ -88,7 +86,7 @@ fn put_file(state: &StateWords, notes: &[u8], target: &mut [u8])
     let at = start + file::RECORD_SIZE * (count as usize);
     put(target, 0, notes);
     put_records(state, target, start);
-    put_trailer(target, at, start as u32, count, state.sx(), state.sy());
+    put_trailer(target, at, start as u32, count, state.torus());
 }
 
 // Writing from words that form a state.

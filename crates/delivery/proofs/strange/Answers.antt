@@ -12,12 +12,10 @@ returns-then-flows-d c =
 
 pub impossible-requires : goal.impossible-requires
 impossible-requires c =
-    let facts = c.flows.ensures.facts in
-    let header = facts.header in
-    rw (c.sx.ensures.value, c.sy.ensures.value, c.flow.ensures.value)
-    (flow_ok _ facts _ (rw (← c.flows.ensures.value) c.if-flows-d.false), (header.sx_ok.most, header.sy_ok.most))
+    rw (c.torus.ensures.sizes.0, c.torus.ensures.sizes.1, c.flow.ensures.value)
+    (flow_ok _ c.flows.ensures.facts _ (rw (← c.flows.ensures.value) c.if-flows-d.false))
 
 pub returns-else-flows-d : goal.returns-else-flows-d
 returns-else-flows-d c =
-    rw (c.impossible.ensures, c.sx.ensures.value, c.sy.ensures.value, c.flow.ensures.value)
+    rw (c.impossible.ensures, c.torus.ensures.sizes.0, c.torus.ensures.sizes.1, c.flow.ensures.value)
     (of_flow_lem c.args.state.now (as_told c.args.d) (rw (← c.flows.ensures.value) c.if-flows-d.false))

@@ -1,5 +1,5 @@
 -- `read_flows`: the flows passed fit, and ΔX of each is noted.
-use Rattle.std.proofs.Common.{sym, arith}
+use Rattle.std.proofs.Common.{sym}
 use Rattle.laws.proofs.Bounded.{all_more, all_fails}
 use Rattle.valid.proofs.ColumnOffsets.{column_offsets_more}
 use Rattle.valid.proofs.read_flows.Goals as goal

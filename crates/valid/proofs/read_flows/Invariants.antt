@@ -1,6 +1,5 @@
 use mathlib.Core.Bool.{true}
 use mathlib.Core.Path.{◌≡◌}
-use lib.ListN.{length}
 use Rattle.laws.specs.Bounded.{all_below}
 use Rattle.state.specs.Forms.{flow_fits}
 use Rattle.state.specs.Facts.{ColumnOffsets}

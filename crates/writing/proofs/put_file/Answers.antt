@@ -4,5 +4,5 @@ use Rattle.writing.proofs.put_file.Goals as goal
 
 pub returns : goal.returns
 returns c =
-    rw (c.put_trailer.ensures, c.put_records.ensures, c.put.ensures, c.flows-count.ensures.value, c.sx.ensures.value, c.sy.ensures.value)
+    rw (c.put_trailer.ensures, c.put_records.ensures, c.put.ensures, c.flows-count.ensures.value, c.torus.ensures.sizes.0, c.torus.ensures.sizes.1)
     (file_sets c.args.state.now c.args.notes.now c.args.target.now c.requires.1)

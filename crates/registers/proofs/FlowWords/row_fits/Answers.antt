@@ -1,5 +1,5 @@
 -- `row_fits`: the test of each router.
-use Rattle.std.proofs.Common.{rules, refl}
+use Rattle.std.proofs.Common.{rules}
 use Rattle.state.specs.Read.{sx_in}
 use Rattle.state.specs.Forms.{cell_fits}
 use Rattle.registers.proofs.All.{all_from_range}

@@ -1,5 +1,5 @@
 -- `rows_fit`: the test of each row.
-use Rattle.std.proofs.Common.{rules, refl}
+use Rattle.std.proofs.Common.{rules}
 use Rattle.laws.specs.Bounded.{all_below}
 use Rattle.state.specs.Read.{sx_in, sy_in}
 use Rattle.state.specs.Forms.{cell_fits}
