@@ -73,13 +73,7 @@ fn pass_flows(state: &mut [u32], k: u32)
     requires { StateFacts state.old }
     ensures { state.new ≡ turns (count_in state.old) (tallied (passed_at k (state_of state.old))) state.old }
 {
-    let flows = state[state::FLOWS];
-    for f in 0..flows {
-        let at = state::flow_place(f as usize);
-        let flow = state::flow_in(state, at);
-        let tally = state::tally_in(state, at);
-        state::put_tally(state, at, passed_tally(k, flow, tally));
-    }
+    state::retally(state, |_, flow, tally| passed_tally(k, flow, tally));
 }
 
 // A leap of at most so many cycles, to the next token of a waiting flow or to the last clock: how many it took.
