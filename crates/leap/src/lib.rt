@@ -21,12 +21,7 @@ fn is_vacant(state: &StateWords) -> bool
     let registers = 2 * ((state.sx() * state.sy()) as usize);
     let at = state::flow_place(state.flows() as usize);
     let words = state.words();
-    for i in 0..registers {
-        if words[at + state::REGISTER_SIZE * i] != 0 {
-            return false;
-        }
-    }
-    true
+    (0..registers).all(|i| words[at + state::REGISTER_SIZE * i] == 0)
 }
 
 // For how many cycles, at most so many, the flow surely doesn't enter.

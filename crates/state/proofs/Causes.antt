@@ -1,6 +1,6 @@
 -- Laws of checks that `?` ends: a cause becomes the refusal that the definitions give. Rests on specs/Outcome.
 use mathlib.Core.Path.{◌≡◌}
-use Prim.Native.Nat.{ℕ, ◌≤◌}
+use Prim.Native.Nat.{ℕ}
 use native.Mathlib.Omega.{arith}
 use Rattle.std.specs.Prelude.{Result, Ok, Err, IsErrAnd}
 use Rattle.refusal.specs.declared.Cause.{Cause}
