@@ -100,12 +100,7 @@ pub fn tally_flows(state: &mut [u32], entrants: &[Option<u32>])
     ensures { state.new ≡ turns (count_in state.old) (tallied (next_tally (state_of state.old))) state.old }
 {
     let sx = state[state::SX];
-    let flows = state[state::FLOWS];
-    for f in 0..flows {
-        let at = state::flow_place(f as usize);
-        let flow = state::flow_in(state, at);
-        let tally = state::tally_in(state, at);
-        let enters = entered(entrants, sx, flow, f);
-        state::put_tally(state, at, tally_after(flow, tally, enters));
-    }
+    state::retally(state, |f, flow, tally| {
+        tally_after(flow, tally, entered(entrants, sx, flow, f))
+    });
 }

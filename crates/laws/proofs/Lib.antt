@@ -11,3 +11,4 @@ pub mod Turns
 pub mod Written
 pub mod Zeros
 pub mod Bits
+pub mod All

@@ -21,12 +21,7 @@ fn is_vacant(state: &StateWords) -> bool
     let registers = 2 * ((state.sx() * state.sy()) as usize);
     let at = state::flow_place(state.flows() as usize);
     let words = state.words();
-    for i in 0..registers {
-        if words[at + state::REGISTER_SIZE * i] != 0 {
-            return false;
-        }
-    }
-    true
+    (0..registers).all(|i| words[at + state::REGISTER_SIZE * i] == 0)
 }
 
 // For how many cycles, at most so many, the flow surely doesn't enter.
@@ -73,13 +68,7 @@ fn pass_flows(state: &mut [u32], k: u32)
     requires { StateFacts state.old }
     ensures { state.new ≡ turns (count_in state.old) (tallied (passed_at k (state_of state.old))) state.old }
 {
-    let flows = state[state::FLOWS];
-    for f in 0..flows {
-        let at = state::flow_place(f as usize);
-        let flow = state::flow_in(state, at);
-        let tally = state::tally_in(state, at);
-        state::put_tally(state, at, passed_tally(k, flow, tally));
-    }
+    state::retally(state, |_, flow, tally| passed_tally(k, flow, tally));
 }
 
 // A leap of at most so many cycles, to the next token of a waiting flow or to the last clock: how many it took.

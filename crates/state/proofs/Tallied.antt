@@ -3,16 +3,17 @@
 use mathlib.Core.Bool.{cond}
 use mathlib.Core.List.{List}
 use mathlib.Core.Logic.{◌≢◌}
-use mathlib.Core.Path.{◌≡◌, refl, ◌∙◌}
+use mathlib.Core.Path.{◌≡◌, refl, sym, ◌∙◌}
 use Prim.Native.Nat.{ℕ, zero, suc, ◌+◌, ◌≤◌, ◌<◌}
-use native.Mathlib.Decide.{dec_lt}
+use native.Mathlib.Decide.{dec_lt, ℕ_discrete}
 use native.Mathlib.Omega.{arith}
 use borrow.Author.Tests.{lt-ltb, le-ltb}
 use lib.Dec.{ltb}
 use lib.ListN.{drop}
 use lib.Seq.{sets}
 use Rattle.laws.specs.Turns.{turns}
-use Rattle.laws.proofs.Turns.{turns_more}
+use Rattle.laws.proofs.Turns.{turns_none, turns_more}
+use Rattle.flow.specs.declared.Flow.{Flow}
 use Rattle.flow.specs.Plan.{flow_at}
 use Rattle.state.specs.declared.Tally.{Tally}
 use Rattle.state.specs.Layout.{flow_place, number_size, plan_size}
@@ -20,7 +21,7 @@ use Rattle.state.specs.State.{tally_at, cell_at}
 use Rattle.state.specs.Words.{tally_words}
 use Rattle.state.specs.Read.{count_in, flow_in, tally_in, state_of}
 use Rattle.state.specs.Facts.{StateFacts}
-use Rattle.state.specs.Tallied.{tallied}
+use Rattle.state.specs.Tallied.{tallied, Retallied}
 use Rattle.state.proofs.View.{counted}
 use Rattle.state.proofs.Read.{flow_read, tally_read}
 use Rattle.state.proofs.Holds.{Holds, hold_same, tally_written}
@@ -60,3 +61,47 @@ module _ (w : List ℕ) (s : StateFacts w) (next : ℕ → Tally) where
     pub turned_more : (t : Tally) → t ≡ next f → sets l (at + number_size) (tally_words t) ≡ turns (f + 1) (tallied next) w
     unfolding tallied
     turned_more t e = rw (place, e) (turns_more f (tallied next) w l now)
+
+-- the same tallies, the same words
+tallied_same : (next other : ℕ → Tally) (w : List ℕ) (n : ℕ) → ((f : ℕ) → f < n → next f ≡ other f) → turns n (tallied next) w ≡ turns n (tallied other) w
+unfolding turns tallied
+tallied_same next other w zero same = refl
+tallied_same next other w (suc n) same = rw (same n (omega arith), tallied_same next other w n (λ f l. same f (omega arith)))
+
+-- a walk whose next tallies a call gives
+module _ (post : ℕ → Flow → Tally → Tally → Type 0) (w : List ℕ) where
+  pub retallied_none : Retallied post w 0 w
+  retallied_none = record { next = tally_at (state_of w); given = λ f l. absurd (omega arith); words = turns_none _ w }
+
+  -- flow f's turn: the words there are those of the flow, and its next tally is written
+  module _ (s : StateFacts w) (f : ℕ) (below : f < count_in w) (l : List ℕ) (at : ℕ) (walk : Retallied post w f l) (place : at ≡ flow_place f) where
+    pub flow_here : flow_in l at ≡ flow_at (state_of w).plan f
+    flow_here = turned_flow w s walk.next f below l at walk.words place
+
+    pub tally_here : tally_in l at ≡ tally_at (state_of w) f
+    tally_here = turned_tally w s walk.next f below l at walk.words place
+
+    pub retallied_more : (t : Tally) → post f (flow_in l at) (tally_in l at) t → Retallied post w (f + 1) (sets l (at + number_size) (tally_words t))
+    retallied_more t here = record { next = next; given = given; words = turned_more w s next f below l at (walk.words ∙ tallied_same _ _ w f before) place t (sym now) }
+      where
+        next : ℕ → Tally
+        next g = cond (ltb g f) (walk.next g) t
+
+        now : next f ≡ t
+        now = rw (le-ltb f f (omega arith))
+
+        before : (g : ℕ) → g < f → walk.next g ≡ next g
+        before g less = rw (lt-ltb g f less)
+
+        given : (g : ℕ) → g < f + 1 → post g (flow_at (state_of w).plan g) (tally_at (state_of w) g) (next g)
+        given g less =
+            elim (ℕ_discrete g f) [
+              | yes e ↦ rw (e, now, ← flow_here, ← tally_here) here
+              | no e ↦ rw (← before g (omega arith)) (walk.given g (omega arith))
+            ]
+
+  -- where a call gives but one tally at each flow, the walk writes that
+  pub retallied : (next : ℕ → Tally) (n : ℕ) (l : List ℕ) → Retallied post w n l
+      → ((f : ℕ) (t : Tally) → f < n → post f (flow_at (state_of w).plan f) (tally_at (state_of w) f) t → t ≡ next f)
+      → l ≡ turns n (tallied next) w
+  retallied next n l walk each = walk.words ∙ tallied_same _ _ w n (λ f less. each f _ less (walk.given f less))

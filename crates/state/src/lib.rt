@@ -11,6 +11,7 @@ ghost use Rattle.state.specs.Words.{number_words, tally_words, register_words};
 ghost use Rattle.state.specs.State.{tally_at, cell_at};
 ghost use Rattle.state.specs.Read.{sx_in, sy_in, count_in, clock_in, flow_in, tally_in, register_in, cell_in, state_of};
 ghost use Rattle.state.specs.Facts.{HeaderFacts, StateFacts};
+ghost use Rattle.state.specs.Tallied.{AtEach, Retallied};
 
 use bucket::Bucket;
 use flow::{Flow, Torus};
@@ -337,6 +338,19 @@ pub fn put_tally(w: &mut [u32], at: usize, t: Tally)
         t.entered,
         t.waiting,
     );
+}
+
+// Writes each flow's next tally, by its number, plan numbers and tally.
+pub fn retally<N: Fn(u32, Flow, Tally) -> Tally>(state: &mut [u32], next: N)
+    requires facts { StateFacts state.old }
+    requires callable { AtEach (N.pre next) state.old }
+    ensures { Retallied (N.post next) state.old (count_in state.old) state.new }
+{
+    for f in 0..state[FLOWS] {
+        let at = flow_place(f as usize);
+        let tally = next(f, flow_in(state, at), tally_in(state, at));
+        put_tally(state, at, tally);
+    }
 }
 
 // Writes the clock.

@@ -2,7 +2,7 @@
 use Rattle.std.proofs.Common.{rules}
 use Rattle.state.specs.Read.{sx_in}
 use Rattle.state.specs.Forms.{cell_fits}
-use Rattle.registers.proofs.All.{all_from_range}
+use Rattle.laws.proofs.All.{all_from_range}
 use Rattle.registers.proofs.FlowWords.row_fits.Goals as goal
 
 pub returns : goal.returns

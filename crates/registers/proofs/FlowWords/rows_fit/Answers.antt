@@ -3,7 +3,7 @@ use Rattle.std.proofs.Common.{rules}
 use Rattle.laws.specs.Bounded.{all_below}
 use Rattle.state.specs.Read.{sx_in, sy_in}
 use Rattle.state.specs.Forms.{cell_fits}
-use Rattle.registers.proofs.All.{all_from_range}
+use Rattle.laws.proofs.All.{all_from_range}
 use Rattle.registers.proofs.FlowWords.rows_fit.Goals as goal
 
 pub returns : goal.returns

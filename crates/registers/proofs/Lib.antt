@@ -1,2 +1,0 @@
--- What a test of all numbers below a bound tells.
-pub mod All
