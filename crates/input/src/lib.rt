@@ -14,6 +14,7 @@ pub fn read_full<R: Read>(input: &mut R, memory: &mut [u8]) -> io::Result<usize>
     ensures bytes { IfOk result (λ n. Consumes (R.remaining input.old) (R.remaining input.new) (take n memory.new)) }
     ensures whole { IfOk result (λ n. n < length memory.new → IsAtEnd (R.remaining input.new)) }
 {
+    // By `read`: `read_exact` gives no count of what came before the input's end, and `read_to_end` needs a heap.
     let mut done = 0;
     while done < memory.len() {
         let n = input.read(&mut memory[done..])?;

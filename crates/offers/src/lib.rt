@@ -45,8 +45,8 @@ fn take_back(state: &mut [u32], flows: &[u32], n: usize)
     requires { WasAdded flows.now n state.old }
     ensures { IsBack flows.now n state.old state.new }
 {
-    for k in (0..n).rev() {
-        wait_less(state, flows[k]);
+    for &f in flows[..n].iter().rev() {
+        wait_less(state, f);
     }
 }
 

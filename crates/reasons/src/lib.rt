@@ -48,6 +48,7 @@ pub fn tell(state: &StateWords, entrants: &mut [Option<u32>], reasons: &mut [u32
     requires state_in_bounds { count_in state.now ≤ length reasons.old }
     ensures { reasons.new ≡ over (words_on (state_of state.now)) reasons.old }
 {
+    // By number: a flow's number is what `why` asks for and the place of its reason.
     for f in 0..state.flows() {
         let reason = why(state, f, entrants);
         reasons[f as usize] = reason.number();

@@ -79,6 +79,7 @@ fn read_flows<'a>(w: &'a [u32], dxs: &'a mut [u8]) -> Option<FlowWords<'a>>
     ensures words { IfSome result (λ s. s ≡ w.now) }
 {
     let count = w[state::FLOWS] as usize;
+    // By number: a flow's number is what `dx_of` asks for and the place of its ΔX.
     for f in 0..count {
         dxs[f] = dx_of(w, f)?;
     }
