@@ -44,7 +44,7 @@ fn value_word(a: Result<u32, Refusal>) -> u64
     a.map_or_else(refusal_word, u64::from)
 }
 
-// The answer of a call that has no value.
+// The answer of a call that has no value. Each of the two is a line; a trait for both would be longer.
 fn answer_word(a: Result<(), Refusal>) -> u64
     ensures { result ≡ answer_word (told a) }
 {

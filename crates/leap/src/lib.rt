@@ -90,7 +90,7 @@ fn leap(state: &mut [u32], most: u32) -> u32
     k
 }
 
-// A leap where one may come, or none.
+// A leap where one may come, or none: a call of its own, so that its caller has one fact of both.
 pub fn leap_if(may_leap: bool, state: &mut [u32], most: u32) -> u32
     requires { StateFacts state.old }
     ensures { Leapt state.old most result state.new }

@@ -15,7 +15,7 @@ use flow::Port;
 use state::Packet;
 
 // The grid of a state's routers: columns, rows, and the flows in front of the registers.
-#[derive(Clone, Copy)]
+#[derive(Clone, Copy, Debug, PartialEq, Eq)]
 pub struct Grid {
     pub sx: u32,
     pub sy: u32,
@@ -49,7 +49,8 @@ impl Grid {
     }
 }
 
-// Writes the five words of a packet that exits, if there is one, behind those of `count` exits, and counts it.
+// Writes the five words of a packet that exits, if there is one, behind those of `count` exits, and counts it. For how many exits more
+// there is room differs from function to function, so it is asked, and no fact of the memory.
 pub fn deliver(exit: Option<Packet>, clock: u32, delivery: &mut [u32], count: u32) -> u32
     requires { ExitRoom count 1 delivery.old }
     ensures value { result ≡ count + length (leaving clock exit) }

@@ -18,7 +18,7 @@ use state::{Packet, StateWords};
 use std::marker::Model;
 
 // What is sent by the two outputs of a router.
-#[derive(Clone, Copy)]
+#[derive(Clone, Copy, Debug, PartialEq, Eq)]
 struct Sent {
     east: Option<Packet>,
     south: Option<Packet>,

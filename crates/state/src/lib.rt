@@ -72,7 +72,8 @@ pub struct Tally {
     pub waiting: u32,
 }
 
-// Words that form a state, lent to be read; seen as those words.
+// Words that form a state, lent to be read; seen as those words. What writes them is lent them as a slice, and asks for the fact by
+// name, since between two writes they form no state.
 #[derive(Drop)]
 pub struct StateWords<'a> {
     words: &'a [u32],
@@ -284,7 +285,7 @@ pub fn cell_in(w: &[u32], at: usize) -> Cell
     }
 }
 
-// Neither register of the router at a place has a packet.
+// Neither register of the router at a place has a packet: in one test, since a step asks it of every router.
 #[tactic(auto, using(laws::proofs::Zeros::or_none))]
 pub fn is_vacant(w: &[u32], at: usize) -> bool
     requires { at + router_size ≤ length w.now }

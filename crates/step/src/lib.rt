@@ -51,7 +51,8 @@ fn store_next(state: &mut [u32], entrants: &[Option<u32>], registers: &[u32])
     state[place..place + size].copy_from_slice(&registers[..size]);
 }
 
-// Runs f on a state and on a memory beside it, with room for the entrants and for the next registers. A small torus gets little room.
+// Runs f on a state and on a memory beside it, with room for the entrants and for the next registers. A small torus gets little room. It
+// goes as two slices, since a closure can't be generic over its size.
 pub fn with_room<R, F: FnOnce(&mut [u32], &mut [u32], &mut [Option<u32>], &mut [u32]) -> R>(
     state: &mut [u32],
     beside: &mut [u32],
