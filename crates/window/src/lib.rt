@@ -1,10 +1,9 @@
 // A flow's rivals, the search for a window among them, and the lone wait. Rests on conflict and bucket.
 #![tactic(auto)]
 
-ghost use Rattle.std.specs.Prelude.{◌≡◌, ◌+◌, ◌*◌, ◌/◌, ◌<◌, ◌≤◌, [], ◌++◌, ◌∷◌, leb, length, Some, ℕ};
+ghost use Rattle.std.specs.Prelude.{◌≡◌, ◌+◌, ◌*◌, ◌/◌, ◌<◌, ◌≤◌, [], ◌++◌, ◌∷◌, leb, length};
 ghost use Rattle.window.specs.Window.{most_window, least_from, least_window, lone_wait};
 ghost use Rattle.flow.specs.Plan.{most_period, most_burst, most_flows};
-ghost use Rattle.conflict.specs.Inner.{most_spread};
 ghost use Rattle.window.specs.Rivals.{RivalOk, AllOk, rival_share, whole_link, demand_of, rates_of, keep_rival};
 
 use arrayvec::ArrayVec;
@@ -33,16 +32,15 @@ pub struct Rivals<const N: usize> {
 }
 
 impl<const N: usize> Model for Rivals<N> {
-    ghost use Rattle.std.specs.Prelude.{List, ◌≡◌, ◌≤◌, length};
-    ghost use Rattle.flow.specs.Plan.{most_flows};
+    ghost use Rattle.std.specs.Prelude.{List, ◌≡◌};
     ghost use Rattle.window.specs.declared.Rival.{Rival};
-    ghost use Rattle.window.specs.Rivals.{AllOk, rates_of};
+    ghost use Rattle.window.specs.Rivals.{rates_of};
 
     ghost Value = { List Rival };
 
     ghost view = { λ r. r.kept.items };
 
-    ghost invariant = { λ r. (length r.kept.items ≤ most_flows) × ((AllOk r.kept.items) × (r.rates ≡ rates_of r.kept.items)) };
+    ghost invariant = { λ r. r.rates ≡ rates_of r.kept.items };
 }
 
 impl Rival {
@@ -91,9 +89,8 @@ impl<const N: usize> Rivals<N> {
     // Flow g becomes a rival if it conflicts.
     #[tactic(auto, using(crate::proofs::Rates::rates_most, std::proofs::lemmas::List::Sums::sum_by_push), unfolding(crate::specs::Rivals::rates_of))]
     pub fn keep(&mut self, g: Flow, conflict: Option<u32>)
-        requires room { (length self.old < N) × (length self.old < most_flows) }
-        requires flow { (1 ≤ g.period) × ((1 ≤ g.burst) × (g.burst ≤ most_burst)) }
-        requires small { (spread : ℕ) → conflict ≡ Some spread → spread ≤ most_spread }
+        requires room { (length self.old < N) × (rates_of self.old ≤ whole_link * most_flows) }
+        requires le_period { 1 ≤ g.period }
         ensures { self.new ≡ keep_rival self.old g conflict }
     {
         if let Some(spread) = conflict {
@@ -117,7 +114,8 @@ impl<const N: usize> Rivals<N> {
     // The least window that the rivals leave for so many packets. They add a packet each at least, so there is none below the search's
     // start; and where there is none at t, there is none below the packets and the rivals' demand at t.
     pub fn least_burst(&self, packets: u32) -> Option<u32>
-        requires { (1 ≤ packets) × (packets ≤ most_burst) }
+        requires rivals { (length self.now ≤ most_flows) × AllOk self.now }
+        requires packets { (1 ≤ packets) × (packets ≤ most_burst) }
         ensures { result ≡ least_window (λ t. leb (demand_of self.now t + packets) t) }
     {
         let mut t = (self.kept.len() as u32) + packets;
@@ -135,6 +133,7 @@ impl<const N: usize> Rivals<N> {
 
     // The least window that the rivals leave for one packet.
     pub fn least_window(&self) -> Option<u32>
+        requires { (length self.now ≤ most_flows) × AllOk self.now }
         ensures { result ≡ least_from (demand_of self.now) most_window 1 }
     {
         self.least_burst(1)

@@ -40,6 +40,13 @@ returns-then-fills_link c =
     let most : c.loop-g.g + 1 ≤ length (plan_of c.args.self.now).flows = omega (arith, rw read at c.loop-g-test.true) in
     sym (burst_filled _ _ _ _ c.meet.ensures _ c.requires.packets.0 most (leb-true _ _ (sym c.fills_link.ensures ∙ c.if-fills_link.true)))
 
+pub least_burst-requires : goal.least_burst-requires
+least_burst-requires c =
+    let among = c.loop-g.invariant in
+    let read = rw c.self.view_is at c.trailer-g-end.ensures.value in
+    let most = rw c.self.view_is at (few _ c.self.invariant.0) in
+    (omega arith, ((omega (arith, among.few, most, rw read at c.loop-g.auto.g-end), among.ok), c.requires.packets))
+
 pub returns : goal.returns
 returns c =
     let count = plan_count c.args.self.now in

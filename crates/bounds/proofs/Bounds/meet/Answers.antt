@@ -8,7 +8,8 @@ use Rattle.plan.proofs.Ranges.{plan_count}
 use Rattle.turning.specs.Columns.{TurningIn}
 use Rattle.conflict.specs.Conflict.{conflict}
 use Rattle.conflict.proofs.Told.{conflict_told}
-use Rattle.window.proofs.Gathered.{among_self, among_more, spread_small}
+use Rattle.window.proofs.Gathered.{among_self, among_more}
+use Rattle.window.proofs.Rates.{rates_most}
 use Rattle.bounds.proofs.Opened.{flow_fits_lem, flow_pair, word_small}
 use Rattle.bounds.proofs.Bounds.meet.Given as given
 use Rattle.bounds.proofs.Bounds.meet.Goals as goal
@@ -45,15 +46,9 @@ pub keep-requires : goal.keep-requires
 keep-requires g c =
     let file = c.args.self.now in
     let ok : PlanOk (plan_of file) = rw c.self.view_is at c.self.invariant.0 in
-    let p = c.requires.flows in
-    let count = plan_count file in
-    let fits = flow_fits_lem file ok _ p.1 in
-    let among = c.requires.rivals_among in
-    let other = rw c.self.view_is at c.flow-other.ensures in
-    let small = spread_small _ _ _ _ among ok (rw count p.0) (rw count p.1) c.if-g-f.false in (
-      omega arith,
-      ((omega arith, omega arith), (rw other (fits.period_least, (fits.burst_least, fits.burst_most)), λ j e. small j (sym (met g c) ∙ e))),
-    )
+    let fits = flow_fits_lem file ok _ c.requires.flows.1 in
+    let few = c.requires.rivals_among.few in
+    (omega arith, ((omega arith, omega (arith, rates_most c.args.rivals.now)), rw (rw c.self.view_is at c.flow-other.ensures) fits.period_least))
 
 pub returns : goal.returns
 returns g c =

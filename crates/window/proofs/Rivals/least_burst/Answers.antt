@@ -6,12 +6,13 @@ use Rattle.window.proofs.Demand.{demand_time, demand_least, demand_most}
 use Rattle.window.proofs.Rivals.least_burst.Goals as goal
 
 pub loop-t-init : goal.loop-t-init
-loop-t-init g c = (omega arith, λ u l m. omega (arith, demand_least _ u c.self.invariant.1.0))
+loop-t-init g c = (omega arith, λ u l m. omega (arith, demand_least _ u (rw (← c.self.view_is) at c.requires.rivals.1)))
 
 pub overflow_add-d : goal.overflow_add-d
 overflow_add-d g c =
-    let most = demand_most _ _ c.self.invariant.1.0 c.if-t-gt-MOST_WINDOW.false in
-    omega (arith, rw c.deref.ensures.0 at c.demand_of.ensures)
+    let rivals = rw (← c.self.view_is) at c.requires.rivals in
+    let most = demand_most _ _ rivals.1 c.if-t-gt-MOST_WINDOW.false in
+    omega (arith, rivals.0, rw c.deref.ensures.0 at c.demand_of.ensures)
 
 pub loop-t-preserved : goal.loop-t-preserved
 loop-t-preserved g c =
