@@ -92,7 +92,7 @@ fn take_turn(
 
 // So many steps, one after the other, each delivering behind the last: the count of exits. After a step without an exit something is in
 // flight, and after a leap a waiting flow has a token, or the steps are over; so a leap is tried at the start and after exits.
-fn advance_many(
+pub fn advance_many(
     state: &mut [u32],
     delivery: &mut [u32],
     entrants: &mut [Option<u32>],

@@ -14,8 +14,7 @@ use Rattle.flow.specs.declared.Flow.{Flow}
 use Rattle.flow.specs.Plan.{Plan, flow_at}
 use Rattle.flow.specs.Ranges.{PlanOk}
 use Rattle.conflict.specs.Conflict.{Conflict, conflict}
-use Rattle.conflict.specs.Inner.{most_spread}
-use Rattle.conflict.proofs.Spread.{SpreadMost, none, some, spread_at, conflict_most}
+use Rattle.conflict.proofs.Spread.{SpreadMost, none, some, conflict_most}
 use Rattle.window.specs.declared.Rival.{Rival}
 use Rattle.window.specs.Window.{share, share_of, interference, least_window, window_of, burst_window_of}
 use Rattle.window.specs.Rivals.{RivalOk, whole_link, rival_share, demand_of, rates_of, rival_of, keep_rival, RivalsAmong}
@@ -67,10 +66,6 @@ module _ (p : Plan) (f m : ℕ) (rivals : List Rival) (h : RivalsAmong p f m riv
     small : SpreadMost (conflict p (flow_at p f) (flow_at p m))
     small =
         conflict_most p ok.sx_most ok.sy_most (flow_at p f) (flow_at p m) (record { own = ok.flow_ok f in_plan; other = ok.flow_ok m below })
-
-    -- no spread of theirs is larger
-    pub spread_small : (j : ℕ) → conflict p (flow_at p f) (flow_at p m) ≡ Some j → j ≤ most_spread
-    spread_small j e = spread_at _ j small e
 
     among_by : (c : Conflict) → conflict p (flow_at p f) (flow_at p m) ≡ c → SpreadMost c
         → RivalsAmong p f (m + 1) (keep_rival rivals (flow_at p m) c)
