@@ -1,6 +1,5 @@
 -- What the flows of an accepted file have: their ranges, and a word of the turning rows. Rests on the laws of plan files.
 use mathlib.Core.List.{List}
-use mathlib.Core.Path.{◌≡◌}
 use Prim.Native.Nat.{ℕ, ◌^◌, ◌≤◌, ◌<◌}
 use native.Mathlib.Omega.{arith}
 use lib.ListN.{length, get_or}

@@ -11,6 +11,7 @@ ghost use Rattle.window.specs.Window.{window_of, burst_window_of};
 ghost use Rattle.window.specs.Rivals.{RivalsAmong};
 ghost use Rattle.bounds.specs.Bounds.{asked, window_answer, is_burst, burst_answer, flight_bound_answer, flight_bound_of};
 
+use conflict::Meeting;
 use flow::{Flow, Port};
 use plan::PlanFile;
 use refusal::{Cause, Refusal};
@@ -63,11 +64,13 @@ impl Bounds<'_> {
             return;
         }
         let other = self.plan.flow(g);
-        let word = self.columns[other.xd as usize];
-        rivals.keep(
+        let meeting = Meeting {
+            torus: self.plan.torus(),
+            word: self.columns[other.xd as usize],
+            own,
             other,
-            conflict::conflict_of(self.plan.torus(), word, own, port, other),
-        );
+        };
+        rivals.keep(other, meeting.conflict(port));
     }
 
     // The window B of so many packets of flow f. Its rivals are found once, as long as their rates leave some of the link.

@@ -9,59 +9,73 @@ ghost use Rattle.conflict.specs.Inner.{Pair};
 
 use flow::{Flow, Port, Torus};
 
-// A lap round the row for each row of the word among the first n south of g's source.
-#[tactic(auto, using(crate::proofs::Spread::laps_most))]
-fn laps(torus: Torus, word: u32, g: Flow, n: u32) -> u32
-    requires { (word < 2 ^ torus.sy) × ((g.ys < torus.sy) × (n ≤ torus.sy)) }
-    ensures { result ≡ laps torus.sx torus.sy (is_set word) g n }
-{
-    turning::rows_south(torus.sy, word, g.ys, n) * torus.sx
+// Two flows of one plan, one at its own source, with the rows that turn for the other's destination column, a bit each.
+#[derive(Clone, Copy, Debug)]
+pub struct Meeting {
+    pub torus: Torus,
+    pub word: u32,
+    pub own: Flow,
+    pub other: Flow,
+    ghost pair: { Pair torus.sx torus.sy own other },
+    ghost rows: { word < 2 ^ torus.sy },
 }
 
-// With what spread J the two conflict, if they do: f's port is E and g's client is another. The word has the rows that turn for g's destination column.
-#[tactic(auto, using(std::proofs::lemmas::Bool::Decides::nat_tests, torus::proofs::Axis::offset_below), unfolding(crate::specs::Conflict::conflict_east))]
-fn conflict_east(torus: Torus, word: u32, f: Flow, g: Flow) -> Option<u32>
-    requires { (Pair torus.sx torus.sy f g) × (word < 2 ^ torus.sy) }
-    ensures { result ≡ conflict_east torus.sx torus.sy (is_set word) f g }
-{
-    let rows = torus::offset(torus.sy, g.ys, f.ys);
-    if rows == 0 {
-        let passes = 1 <= torus::offset(torus.sx, g.xs, f.xs)
-            && torus::on_way(torus.sx, g.xs, f.xs, g.xd);
-        return passes.then_some(0);
+impl Meeting {
+    // A lap round the row for each row of the word among the first n south of the other's source.
+    #[tactic(auto, using(crate::proofs::Spread::laps_most))]
+    fn laps(self, n: u32) -> u32
+        requires { n ≤ self.torus.sy }
+        ensures { result ≡ laps self.torus.sx self.torus.sy (is_set self.word) self.other n }
+    {
+        turning::rows_south(self.torus.sy, self.word, self.other.ys, n) * self.torus.sx
     }
-    if torus::on_way(torus.sy, g.ys, f.ys, g.yd) && turning::has_row(word, f.ys) {
-        Some(laps(torus, word, g, rows - 1))
-    } else {
-        None
-    }
-}
 
-// f's port is S and g's client is another.
-#[tactic(auto, using(std::proofs::lemmas::Bool::Decides::nat_tests, torus::proofs::Axis::offset_below), unfolding(crate::specs::Conflict::conflict_south))]
-fn conflict_south(torus: Torus, word: u32, f: Flow, g: Flow) -> Option<u32>
-    requires { (Pair torus.sx torus.sy f g) × (word < 2 ^ torus.sy) }
-    ensures { result ≡ conflict_south torus.sx torus.sy (is_set word) f g }
-{
-    if g.xd == f.xs && torus::on_way(torus.sy, g.ys, f.ys, g.yd) {
-        Some(laps(torus, word, g, torus::offset(torus.sy, g.ys, f.ys)))
-    } else {
-        None
+    // With what spread J the two conflict, if they do: own's port is E and the other's client is another.
+    #[tactic(auto, using(std::proofs::lemmas::Bool::Decides::nat_tests, torus::proofs::Axis::offset_below), unfolding(crate::specs::Conflict::conflict_east))]
+    fn east(self) -> Option<u32>
+        ensures { result ≡ conflict_east self.torus.sx self.torus.sy (is_set self.word) self.own self.other }
+    {
+        let rows = torus::offset(self.torus.sy, self.other.ys, self.own.ys);
+        if rows == 0 {
+            let passes = 1 <= torus::offset(self.torus.sx, self.other.xs, self.own.xs)
+                && torus::on_way(self.torus.sx, self.other.xs, self.own.xs, self.other.xd);
+            return passes.then_some(0);
+        }
+        if torus::on_way(self.torus.sy, self.other.ys, self.own.ys, self.other.yd)
+            && turning::has_row(self.word, self.own.ys)
+        {
+            Some(self.laps(rows - 1))
+        } else {
+            None
+        }
     }
-}
 
-// How g, a flow other than f, conflicts with f at f's source, by f's port and the rows that turn for g's destination column.
-#[tactic(auto, using(std::proofs::lemmas::Bool::Decides::nat_tests), unfolding(crate::specs::Conflict::conflict_by))]
-pub fn conflict_of(torus: Torus, word: u32, f: Flow, port: Port, g: Flow) -> Option<u32>
-    requires pair { (Pair torus.sx torus.sy f g) × (word < 2 ^ torus.sy) }
-    requires port_value { port ≡ port_of torus.sx f }
-    ensures { result ≡ conflict_by torus.sx torus.sy (is_set word) f g }
-{
-    if f.same_client(g) {
-        return Some(0);
+    // The same where own's port is S.
+    #[tactic(auto, using(std::proofs::lemmas::Bool::Decides::nat_tests, torus::proofs::Axis::offset_below), unfolding(crate::specs::Conflict::conflict_south))]
+    fn south(self) -> Option<u32>
+        ensures { result ≡ conflict_south self.torus.sx self.torus.sy (is_set self.word) self.own self.other }
+    {
+        if self.other.xd == self.own.xs
+            && torus::on_way(self.torus.sy, self.other.ys, self.own.ys, self.other.yd)
+        {
+            Some(self.laps(torus::offset(self.torus.sy, self.other.ys, self.own.ys)))
+        } else {
+            None
+        }
     }
-    match port {
-        Port::East => conflict_east(torus, word, f, g),
-        Port::South => conflict_south(torus, word, f, g),
+
+    // How the other conflicts with own at own's source, by own's port.
+    #[tactic(auto, using(std::proofs::lemmas::Bool::Decides::nat_tests), unfolding(crate::specs::Conflict::conflict_by))]
+    pub fn conflict(self, port: Port) -> Option<u32>
+        requires { port ≡ port_of self.torus.sx self.own }
+        ensures { result ≡ conflict_by self.torus.sx self.torus.sy (is_set self.word) self.own self.other }
+    {
+        if self.own.same_client(self.other) {
+            return Some(0);
+        }
+        match port {
+            Port::East => self.east(),
+            Port::South => self.south(),
+        }
     }
 }

@@ -13,33 +13,40 @@ use Rattle.window.proofs.Rates.{rates_most}
 use Rattle.bounds.proofs.Opened.{flow_fits_lem, flow_pair, word_small}
 use Rattle.bounds.proofs.Bounds.meet.Given as given
 use Rattle.bounds.proofs.Bounds.meet.Goals as goal
-use Rattle.bounds.proofs.Bounds.meet.Goals.{After-conflict_of, After-flow-other}
+use Rattle.bounds.proofs.Bounds.meet.Goals.{After-conflict, After-flow-other}
 
 pub returns-then-g-f : goal.returns-then-g-f
 returns-then-g-f g c = among_self _ _ _ _ c.requires.rivals_among c.if-g-f.true
 
-pub conflict_of-requires-clause-pair : goal.conflict_of-requires-clause-pair
-conflict_of-requires-clause-pair g c =
+pub invariant_of-meeting-clause-pair : goal.invariant_of-meeting-clause-pair
+invariant_of-meeting-clause-pair g c =
+    let file = c.args.self.now in
+    let ok : PlanOk (plan_of file) = rw c.self.view_is at c.self.invariant.0 in
+    let p = c.requires.flows in
+    rw (c.torus.ensures.plan.0, c.torus.ensures.plan.1, c.flow-other.ensures, c.self.view_is, c.requires.own_value.0)
+    (flow_pair file ok _ p.0 _ p.1)
+
+pub invariant_of-meeting-clause-rows : goal.invariant_of-meeting-clause-rows
+invariant_of-meeting-clause-rows g c =
     let file = c.args.self.now in
     let ok : PlanOk (plan_of file) = rw c.self.view_is at c.self.invariant.0 in
     let tell : TurningIn (plan_of file) c.self.inside.columns = rw c.self.view_is at c.self.invariant.1 in
-    let p = c.requires.flows in
-    rw (c.torus.ensures.plan.0, c.torus.ensures.plan.1, c.flow-other.ensures, c.self.view_is, c.requires.own_value.0)
-    (flow_pair file ok _ p.0 _ p.1, word_small file ok _ p.1 _ tell)
+    rw (c.torus.ensures.plan.1, c.flow-other.ensures, c.self.view_is)
+    (word_small file ok _ c.requires.flows.1 _ tell)
 
-pub conflict_of-requires-clause-port_value : goal.conflict_of-requires-clause-port_value
-conflict_of-requires-clause-port_value g c =
+pub conflict-requires : goal.conflict-requires
+conflict-requires g c =
     rw (c.torus.ensures.plan.0, c.self.view_is) c.requires.own_value.1
 
 -- the conflict of the two flows of the plan
-met : (g : given.Over) (c : After-conflict_of g) → let p = plan_of c.args.self.now in
-    c.conflict_of.result ≡ conflict p (flow_at p c.args.f) (flow_at p c.args.g)
+met : (g : given.Over) (c : After-conflict g) → let p = plan_of c.args.self.now in
+    c.conflict.result ≡ conflict p (flow_at p c.args.f) (flow_at p c.args.g)
 met g c =
     let file = c.args.self.now in
     let ok : PlanOk (plan_of file) = rw c.self.view_is at c.self.invariant.0 in
     let tell : TurningIn (plan_of file) c.self.inside.columns = rw c.self.view_is at c.self.invariant.1 in
     let p = c.requires.flows in
-    rw (c.conflict_of.ensures, c.torus.ensures.plan.0, c.torus.ensures.plan.1, c.flow-other.ensures, c.self.view_is, c.requires.own_value.0)
+    rw (c.conflict.ensures, c.torus.ensures.plan.0, c.torus.ensures.plan.1, c.flow-other.ensures, c.self.view_is, c.requires.own_value.0)
     (conflict_told _ _ tell _ _ (flow_pair file ok _ p.0 _ p.1))
 
 pub keep-requires : goal.keep-requires
@@ -57,5 +64,5 @@ returns g c =
     let p = c.requires.flows in
     let other = rw c.self.view_is at c.flow-other.ensures in
     let count = plan_count file in
-    rw (c.keep.ensures, other, met g (goal.at.returns g c).After-conflict_of)
+    rw (c.keep.ensures, other, met g (goal.at.returns g c).After-conflict)
     (among_more _ _ _ _ c.requires.rivals_among ok (rw count p.0) (rw count p.1) c.if-g-f.false)
