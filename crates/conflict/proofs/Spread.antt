@@ -22,13 +22,6 @@ pub data SpreadMost : Conflict → Type 0 where
   none : SpreadMost None
   some : {j : ℕ} → j ≤ most_spread → SpreadMost (Some j)
 
-pub spread_at : (c : Conflict) (j : ℕ) → SpreadMost c → c ≡ Some j → j ≤ most_spread
-spread_at (Some i) j (some most) e = let same : i ≡ j = cc in omega arith
-spread_at None j none e = absurd (never j e)
-  where
-    never : (j : ℕ) → None ≡ Some j → ⊥
-    never j e = cc
-
 -- at most all rows of the torus, a lap round the row for each
 pub laps_most : (sx sy : ℕ) → sx ≤ most_size → sy ≤ most_size → (turns : ℕ → Bool) (g : Flow) (r : ℕ) → r ≤ sy → laps sx sy turns g r ≤ most_spread
 laps_most sx sy narrow short turns g r few =
