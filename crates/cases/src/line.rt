@@ -65,7 +65,7 @@ pub enum Line {
 // A number is below this. What a field is worth so far is taken modulo this before each byte.
 const LIMIT: u64 = 0x100000000000000;
 
-// A digit counts in base 10, and any other byte in base 256.
+// A digit counts in base 10, and any other byte in base 256, for words and numbers alike: so every line means what it always meant.
 fn worth(field: &[u8]) -> u64 {
     field.iter().fold(0, |worth, b| match b {
         b'0'..=b'9' => worth % LIMIT * 10 + (b - b'0') as u64,

@@ -14,7 +14,7 @@ use Rattle.feed.specs.Feed.{fed_one, fed_all}
 use Rattle.feed.specs.Inner.{kept_with}
 
 -- one delivery after others
-fed_snoc : (last : ℕ) (ds : List Delivery) (d : Delivery) (records : List Recent)
+pub fed_snoc : (last : ℕ) (ds : List Delivery) (d : Delivery) (records : List Recent)
     → fed_all last (ds ++ (d ∷ [])) records ≡ fed_one last d (fed_all last ds records)
 fed_snoc last [] d records = refl
 fed_snoc last (e ∷ ds) d records = fed_snoc last ds d (fed_one last e records)

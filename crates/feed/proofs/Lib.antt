@@ -2,3 +2,4 @@
 pub mod Fed
 pub mod Accepted
 pub mod Feeding
+pub mod Numbered

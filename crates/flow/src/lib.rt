@@ -74,11 +74,11 @@ impl Offerer {
 }
 
 impl Flow {
-    // Every coordinate is on the torus.
-    pub fn on_torus(self, torus: Torus) -> bool
-        ensures { result ≡ on_torus torus.sx torus.sy self }
+    // Every coordinate is on a torus of sx columns and sy rows. Any sizes will do, so they come as numbers.
+    pub fn on_torus(self, sx: u32, sy: u32) -> bool
+        ensures { result ≡ on_torus sx sy self }
     {
-        self.xs < torus.sx && self.ys < torus.sy && self.xd < torus.sx && self.yd < torus.sy
+        self.xs < sx && self.ys < sy && self.xd < sx && self.yd < sy
     }
 
     // ΔX = (xd − xs) mod Sx. With Sx more, the difference doesn't pass below 0.
@@ -111,7 +111,7 @@ impl Flow {
         }
     }
 
-    // Whether two flows have one client.
+    // Whether two flows have one client: two of their six numbers are compared.
     pub fn same_client(self, other: Flow) -> bool
         ensures { result ≡ same_client self other }
     {

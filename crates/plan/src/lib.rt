@@ -87,7 +87,7 @@ fn check_trailer(file: &[u8]) -> Result<Torus, Cause>
 fn check_record(torus: Torus, f: Flow) -> Result<(), Cause>
     ensures { number_in result ≡ record_number torus.sx torus.sy f }
 {
-    if !f.on_torus(torus) {
+    if !f.on_torus(torus.sx, torus.sy) {
         return Err(Cause::OffTorus);
     }
     if f.period == 0 || f.burst == 0 {

@@ -59,7 +59,7 @@ fn put_flows(plan: &PlanFile, w: &mut [u32])
     }
 }
 
-// Empties the registers of some routers from a place on.
+// Empties the registers of some routers from a place on: a `fill` that knows the size of a router.
 fn clear(w: &mut [u32], at: usize, routers: usize)
     requires { at + router_size * routers ≤ length w.old }
     ensures { w.new ≡ sets w.old at (replicate (router_size * routers) 0) }

@@ -32,7 +32,7 @@ fn header_fits(w: &[u32]) -> bool
 fn numbers_fit(torus: Torus, f: Flow) -> bool
     ensures { result ≡ numbers_fit torus.sx torus.sy f }
 {
-    f.on_torus(torus)
+    f.on_torus(torus.sx, torus.sy)
         && registers::in_range(f.period, flow::MOST_PERIOD)
         && registers::in_range(f.burst, flow::MOST_BURST)
 }

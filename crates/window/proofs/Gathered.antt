@@ -18,7 +18,7 @@ use Rattle.conflict.proofs.Spread.{SpreadMost, none, some, conflict_most}
 use Rattle.window.specs.declared.Rival.{Rival}
 use Rattle.window.specs.Window.{share, share_of, interference, least_window, window_of, burst_window_of}
 use Rattle.window.specs.Rivals.{RivalOk, whole_link, rival_share, demand_of, rates_of, rival_of, keep_rival, RivalsAmong}
-use Rattle.window.proofs.Rates.{filled}
+use Rattle.window.proofs.Rates.{rivals_fill}
 use Rattle.window.proofs.Bursts.{goes_in}
 use Rattle.window.proofs.BurstWindows.{burst_one, burst_none}
 
@@ -42,7 +42,7 @@ module _ (p : Plan) (f m : ℕ) (rivals : List Rival) (h : RivalsAmong p f m riv
   pub burst_filled : (packets : ℕ) → 1 ≤ packets → m ≤ length p.flows → whole_link ≤ rates_of rivals → burst_window_of p f packets ≡ None
   unfolding interference
   burst_filled packets least below full =
-      burst_none p f packets (λ t from to. omega (arith, filled rivals t h.ok from full, h.sum t, sum_grow (share_of p f t) m _ below))
+      burst_none p f packets (λ t from to. omega (arith, rivals_fill rivals t h.ok from full, h.sum t, sum_grow (share_of p f t) m _ below))
 
   pub among_filled : m ≤ length p.flows → whole_link ≤ rates_of rivals → window_of p f ≡ None
   among_filled below full = sym (burst_one p f) ∙ burst_filled 1 (omega arith) below full

@@ -43,6 +43,9 @@ rates_most [] = omega arith
 rates_most (r ∷ rs) = omega (arith, sum_by-cons rate_of r rs, div-le_self whole_link r.period, rates_most rs)
 
 -- rates that fill the link leave no window
-pub filled : (rivals : List Rival) (t : ℕ) → AllOk rivals → 1 ≤ t → whole_link ≤ rates_of rivals → t ≤ demand_of rivals t
-filled rivals t ok h full =
-    le_of_mul-le-mul_left {k = whole_link} (le_trans (mul-le-mul_right t full) (rates_pace rivals t ok h)) (omega arith)
+pub filled : (rates t demand : ℕ) → rates * t ≤ whole_link * demand → whole_link ≤ rates → t ≤ demand
+filled rates t demand paces full =
+    le_of_mul-le-mul_left {k = whole_link} (le_trans (mul-le-mul_right t full) paces) (omega arith)
+
+pub rivals_fill : (rivals : List Rival) (t : ℕ) → AllOk rivals → 1 ≤ t → whole_link ≤ rates_of rivals → t ≤ demand_of rivals t
+rivals_fill rivals t ok h full = filled (rates_of rivals) t (demand_of rivals t) (rates_pace rivals t ok h) full
