@@ -35,7 +35,7 @@ fn find_next(
     routing::route_all(state, entrants, registers, delivery)
 }
 
-// Writes the next tallies, clock and registers.
+// Writes the next tallies, clock and registers, these by a loop: `copy_from_slice` would need `memmove` from outside the archive.
 fn store_next(state: &mut [u32], entrants: &[Option<u32>], registers: &[u32])
     requires all_entered { AllEntered state.old entrants.now }
     requires state_in_bounds { registers_in state.old ≤ length registers.now }
@@ -47,8 +47,9 @@ fn store_next(state: &mut [u32], entrants: &[Option<u32>], registers: &[u32])
     entry::tally_flows(state, entrants);
     state::put_clock(state, clock + 1);
     let place = state::flow_place(flows);
-    let size = state::ROUTER_SIZE * routers;
-    state[place..place + size].copy_from_slice(&registers[..size]);
+    for (i, &word) in registers[..state::ROUTER_SIZE * routers].iter().enumerate() {
+        state[place + i] = word;
+    }
 }
 
 // Runs f on a state and on a memory beside it, with room for the entrants and for the next registers. A small torus gets little room. It

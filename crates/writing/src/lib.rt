@@ -21,12 +21,14 @@ use state::StateWords;
 // The most bytes of a file in front of its trailer.
 const MOST_BODY: usize = file::MOST_FILE - file::TRAILER_SIZE;
 
-// Writes bytes at a place.
+// Writes bytes at a place, by a loop: `copy_from_slice` would need `memmove` from outside the archive.
 fn put(target: &mut [u8], at: usize, bytes: &[u8])
     requires { at + length bytes.now ≤ length target.old }
     ensures { target.new ≡ sets target.old at bytes.now }
 {
-    target[at..at + bytes.len()].copy_from_slice(bytes);
+    for (i, &byte) in bytes.iter().enumerate() {
+        target[at + i] = byte;
+    }
 }
 
 // The record of a flow.

@@ -1,29 +1,29 @@
--- `store_next`: tallies, clock and registers, one after the other.
-use mathlib.Core.List.{List}
-use mathlib.Core.Path.{◌≡◌, refl, sym, ◌∙◌}
-use Prim.Native.Nat.{ℕ, ◌+◌, ◌-◌, ◌≤◌}
+-- `store_next`: tallies, clock and registers, one after the other; a run of stores grows by a word in each turn.
+use mathlib.Core.Path.{◌≡◌}
 use native.Mathlib.Omega.{arith}
-use lib.ListN.{length}
-use lib.Seq.{sets, take_all, length-take-le}
-use borrow.Rule.Slice.PartMut.{put_mid}
-use Rattle.std.proofs.lemmas.List.Edits.{sets-eq}
-use Rattle.std.proofs.lemmas.Slice.{put_mid-paste}
+use lib.ListN.{length, take, length-set}
+use lib.Seq.{length-take-le, take-length}
+use Rattle.laws.proofs.Written.{wrote_more}
 use Rattle.cycle.proofs.Facts.{cells_most}
+use Rattle.routing.specs.Walk.{registers_in}
 use Rattle.step.specs.Next.{next_words}
 use Rattle.step.proofs.store_next.Goals as goal
-
--- a part written anew
-copied : (to part : List ℕ) (at n : ℕ) → length part ≡ n → at + n ≤ length to → put_mid at (at + n - at) to part ≡ sets to at part
-copied to part at n len room =
-    put_mid-paste at (at + n - at) to part part n refl (omega arith) (sym len)
-    ∙ rw (take_all n part (omega arith), sets-eq part to at (omega arith), len)
 
 pub overflow_mul-routers : goal.overflow_mul-routers
 overflow_mul-routers c = omega (arith, cells_most _ c.requires.all_entered.facts)
 
+pub loop-i-preserved : goal.loop-i-preserved
+loop-i-preserved c =
+    let l = c.loop-i in
+    let words = take (registers_in c.args.state.now) c.args.registers.now in (
+      rw length-set l.invariant.0,
+      (wrote_more words l.i (omega arith) (record { place = rw (length-take-le l.i words (omega arith)); memory = l.invariant.1 })).memory,
+    )
+
 pub returns : goal.returns
 unfolding next_words
 returns c =
-    rw c.copy_from_slice.ensures.after
-    (copied _ _ c.flow_place-place.result _ (length-take-le _ _ c.requires.state_in_bounds) (omega arith)
-    ∙ rw (c.flow_place-place.ensures, c.put_clock.ensures, c.tally_flows.ensures))
+    let l = c.loop-i in
+    let words = take (registers_in c.args.state.now) c.args.registers.now in
+    let all : l.i ≡ length words = omega arith in
+    rw (c.flow_place-place.ensures, c.put_clock.ensures, c.tally_flows.ensures, all, take-length words) at l.invariant.1
