@@ -18,7 +18,9 @@ use refusal::{Cause, Refusal};
 use std::marker::Model;
 use window::Rivals;
 
-// Room for the rivals of a flow, which are flows of its plan. One size is as fast as a smaller one for few flows beside it.
+// Room for the rivals of a flow, which are flows of its plan: little where the plan has few flows, since all of it is cleared first.
+const FEW_FLOWS: usize = 64;
+
 const MOST_FLOWS: usize = plan::MOST_FLOWS as usize;
 
 // An accepted plan file with its turning rows, found once: a word of bits for each column. Seen as the file's bytes.
@@ -73,15 +75,17 @@ impl Bounds<'_> {
         rivals.keep(other, meeting.conflict(port));
     }
 
-    // The window B of so many packets of flow f. Its rivals are found once, as long as their rates leave some of the link.
-    pub fn burst(&self, f: u32, packets: u32) -> Option<u32>
+    // The window B of so many packets of flow f, with room for N rivals. They are found once, as long as their rates leave some of the
+    // link.
+    fn burst_in<const N: usize>(&self, f: u32, packets: u32) -> Option<u32>
         requires flow { f < (trailer_of self.now).count }
         requires packets { (1 ≤ packets) × (packets ≤ most_burst) }
+        requires room { ((trailer_of self.now).count ≤ N) × (N ≤ most_flows) }
         ensures { result ≡ burst_window_of (plan_of self.now) f packets }
     {
         let own = self.plan.flow(f);
         let port = own.port(self.plan.torus().sx);
-        let mut rivals = Rivals::<MOST_FLOWS>::new();
+        let mut rivals = Rivals::<N>::new();
         for g in 0..self.plan.trailer().count {
             self.meet(f, own, port, g, &mut rivals);
             if rivals.fills_link() {
@@ -89,6 +93,19 @@ impl Bounds<'_> {
             }
         }
         rivals.least_burst(packets)
+    }
+
+    // The window B of so many packets of flow f.
+    pub fn burst(&self, f: u32, packets: u32) -> Option<u32>
+        requires flow { f < (trailer_of self.now).count }
+        requires packets { (1 ≤ packets) × (packets ≤ most_burst) }
+        ensures { result ≡ burst_window_of (plan_of self.now) f packets }
+    {
+        if self.plan.trailer().count as usize <= FEW_FLOWS {
+            self.burst_in::<FEW_FLOWS>(f, packets)
+        } else {
+            self.burst_in::<MOST_FLOWS>(f, packets)
+        }
     }
 
     // The window T of flow f: that of one packet.

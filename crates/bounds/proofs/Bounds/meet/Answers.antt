@@ -1,5 +1,5 @@
 -- `meet`: f itself is no rival; another flow is kept with its conflict, by the laws of gathering.
-use mathlib.Core.Path.{◌≡◌, sym, ◌∙◌}
+use mathlib.Core.Path.{◌≡◌}
 use native.Mathlib.Omega.{arith}
 use Rattle.flow.specs.Plan.{flow_at}
 use Rattle.flow.specs.Ranges.{PlanOk}

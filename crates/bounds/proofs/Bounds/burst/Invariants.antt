@@ -1,7 +1,0 @@
--- `burst`: the rivals among the flows passed.
-use Rattle.file.specs.Layout.{plan_of}
-use Rattle.window.specs.Rivals.{RivalsAmong}
-use Rattle.bounds.proofs.Bounds.burst.Given as goal
-
-abbrev pub invariant-loop-g : goal.invariant-loop-g
-invariant-loop-g l = RivalsAmong (plan_of l.self) l.f l.g l.rivals
