@@ -49,23 +49,33 @@ impl Grid {
     }
 }
 
-// Writes the five words of a packet that exits, if there is one, behind those of `count` exits, and counts it. For how many exits more
-// there is room differs from function to function, so it is asked, and no fact of the memory.
+// Writes the five words of a packet that exits at a place, if there is one.
+pub fn put_exit(delivery: &mut [u32], at: usize, exit: Option<Packet>, clock: u32)
+    requires { at + exit_size ≤ length delivery.old }
+    ensures { delivery.new ≡ sets delivery.old at (words_of (leaving clock exit)) }
+{
+    if let Some(p) = exit {
+        delivery[at..at + cycle::EXIT_SIZE].copy_from_slice(&[
+            p.flow,
+            p.serial,
+            p.entry,
+            clock,
+            p.deflections,
+        ]);
+    }
+}
+
+// Writes the words of a packet that exits, if there is one, behind those of `count` exits, and counts it. For how many exits more there
+// is room differs from function to function, so it is asked, and no fact of the memory.
 pub fn deliver(exit: Option<Packet>, clock: u32, delivery: &mut [u32], count: u32) -> u32
     requires { ExitRoom count 1 delivery.old }
     ensures value { result ≡ count + length (leaving clock exit) }
     ensures delivery_after { delivery.new ≡ sets delivery.old (exit_size * count) (words_of (leaving clock exit)) }
 {
-    let Some(p) = exit else {
+    if exit.is_none() {
         return count;
-    };
+    }
     let at = cycle::EXIT_SIZE * (count as usize);
-    delivery[at..at + cycle::EXIT_SIZE].copy_from_slice(&[
-        p.flow,
-        p.serial,
-        p.entry,
-        clock,
-        p.deflections,
-    ]);
+    put_exit(delivery, at, exit, clock);
     count + 1
 }
