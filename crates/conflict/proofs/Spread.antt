@@ -1,7 +1,6 @@
 -- Laws of spreads: a spread is small. Rests on specs/Conflict and the laws of turning rows and offsets.
 use mathlib.Core.Bool.{Bool, true, false, cond, ◌&&◌}
 use mathlib.Core.Logic.{inl, inr}
-use mathlib.Core.Path.{◌≡◌}
 use Prim.Native.Nat.{ℕ, ◌-◌, ◌≤◌, ◌<◌}
 use native.Mathlib.Nat.{mul-le-mul}
 use native.Mathlib.Omega.{arith}
@@ -32,7 +31,7 @@ either true h k = h
 either false h k = k
 
 module _ (sx sy : ℕ) (narrow : sx ≤ most_size) (short : sy ≤ most_size) (f g : Flow) (h : Pair sx sy f g) where
-  rows_below : rows_to sy f g < sy
+  pub rows_below : rows_to sy f g < sy
   rows_below = offset_below sy g.ys f.ys h.other.ys_on h.own.ys_on
 
   module _ (turns : ℕ → Bool) where

@@ -38,7 +38,7 @@ eqb_two m n =
     ]
 
 -- with few deflections and an exit after the entry, what is left is the time from entry to exit
-by_travel : (sx sy : ℕ) (f : Flow) (entry exit D : ℕ) → D ≤ ΔY sy f → entry ≤ exit
+pub by_travel : (sx sy : ℕ) (f : Flow) (entry exit D : ℕ) → D ≤ ΔY sy f → entry ≤ exit
     → not (eqb (exit - entry) (travel sx sy f D)) ≡ impossible sx sy f entry exit D
 unfolding impossible
 by_travel sx sy f entry exit D few ordered =

@@ -13,6 +13,9 @@ use Rattle.laws.proofs.Bounded.{length_tabulate, get_d_tabulate}
 use Rattle.laws.proofs.Stands.{length_join, join_stands, stands_in, stands_sets, stands_other, drop_sets}
 use Rattle.laws.proofs.Grid.{get_d_grid, cell_below}
 use Rattle.flow.specs.Plan.{Plan, flow_at}
+use Rattle.refusal.specs.Answer.{Done}
+use Rattle.plan.specs.Refusals.{trailer_number, answer_by, records_answer, plan_answer}
+use Rattle.plan.proofs.Refusals.{or_else_done, answer_done}
 use Rattle.plan.proofs.Ranges.{plan_count}
 use Rattle.file.specs.Layout.{trailer_of, flow_from, record_at, plan_of}
 use Rattle.state.specs.Layout.{header_size, flow_size, router_size, flow_place, state_size, plan_size}
@@ -89,3 +92,10 @@ module _ (file : List ℕ) where
       (flow_place t.count) (replicate (router_size * (t.sx * t.sy)) 0)
       ≡ over (state_words (reset_state (plan_of file))) w
   file_sets w h = rw (← (plan_count file), ← sx_is, ← sy_is, ← zeros) (reset_sets (plan_of file) w h)
+
+-- an accepted file's trailer is not refused
+pub done_number : (file : List ℕ) (v : ℕ) → plan_answer file ≡ Done v → trailer_number file ≡ 0
+unfolding plan_answer
+done_number file v e =
+    let parts = or_else_done (answer_by (trailer_number file) 0) (records_answer file (trailer_of file)) v e in
+    answer_done (trailer_number file) 0 parts.0 parts.1

@@ -36,14 +36,14 @@ module _ (w d : List ℕ) (cycles exits : ℕ) (w' : List ℕ) where
       }
 
   -- a front of that length, and the rest as it was
-  front_most : (m : ℕ) → m ≡ most_delivered → state_number w ≡ 0 → (front : List ℕ)
+  pub front_most : (m : ℕ) → m ≡ most_delivered → state_number w ≡ 0 → (front : List ℕ)
       → Reached w (take m d) (progress (length (take m d)) (state_of w) cycles) exits w' front → Reached w d reached exits w' (front ++ drop m d)
   front_most m e formed front =
       subst (λ k. Reached w (take k d) (progress (length (take k d)) (state_of w) cycles) exits w' front → Reached w d reached exits w' (front ++ drop k d))
       (sym e) (of_most formed front)
 
   -- or all, where there is no more
-  all_reached : length d ≤ most_delivered → (d' : List ℕ)
+  pub all_reached : length d ≤ most_delivered → (d' : List ℕ)
       → Reached w d (progress (length d) (state_of w) cycles) exits w' d' → Reached w d reached exits w' d'
   all_reached few d' r =
       let same : length d ≡ used_room (length d) = sym (ap length (take_all most_delivered d few)) ∙ used_length d in

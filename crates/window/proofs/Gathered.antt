@@ -16,7 +16,7 @@ use Rattle.flow.specs.Ranges.{PlanOk}
 use Rattle.conflict.specs.Conflict.{Conflict, conflict}
 use Rattle.conflict.proofs.Spread.{SpreadMost, none, some, conflict_most}
 use Rattle.window.specs.declared.Rival.{Rival}
-use Rattle.window.specs.Window.{share, share_of, interference, least_window, window_of, burst_window_of}
+use Rattle.window.specs.Window.{share, share_of, interference, least_from, most_window, least_window, window_of, burst_window_of}
 use Rattle.window.specs.Rivals.{RivalOk, whole_link, rival_share, demand_of, rates_of, rival_of, keep_rival, RivalsAmong}
 use Rattle.window.proofs.Rates.{rivals_fill}
 use Rattle.window.proofs.Bursts.{goes_in}
@@ -27,13 +27,19 @@ pub among_none : (p : Plan) (f : ℕ) → RivalsAmong p f 0 []
 unfolding demand_of
 among_none p f = record { few = omega arith; ok = λ k d b. absurd (omega arith); sum = λ t. sym (sum_none _) }
 
--- the rivals among all flows make I(t), so their least window for k packets is B
+-- the rivals among all flows make I(t), so their least window is T
+pub among_all : (p : Plan) (f : ℕ) (rivals : List Rival) → RivalsAmong p f (length p.flows) rivals
+    → least_from (demand_of rivals) most_window 1 ≡ window_of p f
+unfolding window_of interference
+among_all p f rivals h = ap (λ (I : ℕ → ℕ). least_from I most_window 1) (fun_ext h.sum)
+
+-- their least window for k packets is B
 pub burst_all : (p : Plan) (f k : ℕ) (rivals : List Rival) → RivalsAmong p f (length p.flows) rivals
     → least_window (goes_in (demand_of rivals) k) ≡ burst_window_of p f k
 unfolding burst_window_of interference
 burst_all p f k rivals h = ap (λ (I : ℕ → ℕ). least_window (goes_in I k)) (fun_ext h.sum)
 
-with_demand : (rivals : List Rival) (g : Flow) (j t : ℕ) → demand_of (keep_rival rivals g (Some j)) t ≡ demand_of rivals t + share g t (Some j)
+pub with_demand : (rivals : List Rival) (g : Flow) (j t : ℕ) → demand_of (keep_rival rivals g (Some j)) t ≡ demand_of rivals t + share g t (Some j)
 unfolding demand_of rival_share share
 with_demand rivals g j t = sum_by_push (rival_share t) rivals (rival_of g j)
 

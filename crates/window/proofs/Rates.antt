@@ -7,8 +7,12 @@ use native.Mathlib.Omega.{arith}
 use lib.ListN.{length}
 use Rattle.std.proofs.lemmas.List.Elements.{All-tail}
 use Rattle.std.proofs.lemmas.List.Sums.{sum_by-cons}
+use Rattle.std.specs.Prelude.{Some}
+use Rattle.bucket.specs.Curve.{curve}
 use Rattle.bucket.proofs.Curve.{curve_pace}
+use Rattle.flow.specs.declared.Flow.{Flow}
 use Rattle.window.specs.declared.Rival.{Rival}
+use Rattle.window.specs.Window.{share}
 use Rattle.window.specs.Rivals.{RivalOk, AllOk, rival_share, demand_of, whole_link, rate_of, rates_of}
 
 -- r parts of M for every P parts of c
@@ -16,12 +20,28 @@ paced : (r P c t M : ℕ) → t ≤ c * P → r * P ≤ M → r * t ≤ M * c
 paced r P c t M span part =
     rw (mul_comm M c) (le_trans (mul-le-mul_left r span) (rw mul_left_comm (mul-le-mul_left c part)))
 
--- the rate of a rival, in t cycles, is no more than its share of them
+-- the rate of a flow or a rival, in t cycles, is no more than its share of them
+rate_paces : (burst period spread t : ℕ) → 1 ≤ burst → 1 ≤ period → 1 ≤ t
+    → (whole_link / period) * t ≤ whole_link * curve burst period (t - 1 + spread)
+rate_paces burst period spread t tokens cycles h =
+    let pace = curve_pace burst period (t - 1 + spread) tokens cycles in
+    paced (whole_link / period) period _ t whole_link (omega arith) (div-mul-le_self whole_link period)
+
 rival_paces : (r : Rival) (t : ℕ) → RivalOk r → 1 ≤ t → rate_of r * t ≤ whole_link * rival_share t r
 unfolding rival_share
-rival_paces r t ok h =
-    let pace = curve_pace r.burst r.period (t - 1 + r.spread) ok.burst_least ok.period_least in
-    paced (whole_link / r.period) r.period _ t whole_link (omega arith) (div-mul-le_self whole_link r.period)
+rival_paces r t ok h = rate_paces r.burst r.period r.spread t ok.burst_least ok.period_least h
+
+-- rates that are no more than a demand, with a rival more
+pub pace_more : (rates demand : ℕ) (g : Flow) (t j : ℕ) → 1 ≤ g.burst → 1 ≤ g.period → 1 ≤ t → rates * t ≤ whole_link * demand
+    → (rates + whole_link / g.period) * t ≤ whole_link * (demand + share g t (Some j))
+unfolding share
+pace_more rates demand g t j burst period h before =
+    omega (
+      arith,
+      before,
+      rate_paces g.burst g.period j t burst period h,
+      add-mul rates (whole_link / g.period) t,
+    )
 
 rates_pace : (rivals : List Rival) (t : ℕ) → AllOk rivals → 1 ≤ t → rates_of rivals * t ≤ whole_link * demand_of rivals t
 unfolding rates_of demand_of
