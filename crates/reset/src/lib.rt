@@ -84,6 +84,7 @@ fn put_reset(plan: &PlanFile, w: &mut [u32])
 }
 
 // Reset: the plan's refusals, then 8; otherwise the state's words are written. Words past its size stay.
+#[tactic(auto, unfolding(state::specs::Reset::reset_on, state::specs::Outcome::unless_refused))]
 pub fn reset(file: &[u8], state: &mut [u32]) -> Result<(), Refusal>
     ensures { outcome (told result) state.new ≡ reset_on file.now state.old }
 {
