@@ -171,6 +171,6 @@ pub fn notes(file: &[u8]) -> &[u8]
 {
     match PlanFile::open(file) {
         Ok(plan) => &file[..plan.trailer().start as usize],
-        Err(_) => &[],
+        Err(_) => &file[..0],
     }
 }
