@@ -64,7 +64,8 @@ impl Meeting {
         }
     }
 
-    // How the other conflicts with own at own's source, by own's port.
+    // How the other conflicts with own at own's source, by own's port. A window asks it of each flow, and has its lines in the loop.
+    #[inline(always)]
     #[tactic(auto, using(std::proofs::lemmas::Bool::Decides::nat_tests), unfolding(crate::specs::Conflict::conflict_by))]
     pub fn conflict(self, port: Port) -> Option<u32>
         requires { port ≡ port_of self.torus.sx self.own }
