@@ -31,7 +31,7 @@ impl Meeting {
     }
 
     // With what spread J the two conflict, if they do: own's port is E and the other's client is another.
-    #[tactic(auto, using(std::proofs::lemmas::Bool::Decides::nat_tests, torus::proofs::Axis::offset_below), unfolding(crate::specs::Conflict::conflict_east))]
+    #[tactic(auto, using(std::proofs::lemmas::Bool::Decides::nat_tests, torus::proofs::Axis::offset_below, laws::proofs::Bits::set_none), unfolding(crate::specs::Conflict::conflict_east))]
     fn east(self) -> Option<u32>
         ensures { result ≡ conflict_east self.torus.sx self.torus.sy (is_set self.word) self.own self.other }
     {
@@ -41,9 +41,10 @@ impl Meeting {
                 && torus::on_way(self.torus.sx, self.other.xs, self.own.xs, self.other.xd);
             return passes.then_some(0);
         }
-        if torus::on_way(self.torus.sy, self.other.ys, self.own.ys, self.other.yd)
-            && turning::has_row(self.word, self.own.ys)
-        {
+        let on_way = torus::on_way(self.torus.sy, self.other.ys, self.own.ys, self.other.yd);
+        // One test tells both: a word of 0 has no row.
+        let word = if on_way { self.word } else { 0 };
+        if turning::has_row(word, self.own.ys) {
             Some(self.laps(rows - 1))
         } else {
             None

@@ -112,16 +112,26 @@ fn check_records(file: &[u8], t: Trailer, torus: Torus) -> Result<(), Refusal>
     Ok(())
 }
 
+// Reading a plan file: nothing, or the refusal with its place.
+pub fn plan_answer(file: &[u8]) -> Result<(), Refusal>
+    ensures { told result ≡ plan_answer file.now }
+{
+    let torus = check_trailer(file)?;
+    let trailer = file::trailer_of(file);
+    check_records(file, trailer, torus)
+}
+
 impl PlanFile<'_> {
     // Reading a plan file: the file, or the refusal with its place.
     pub fn open(bytes: &[u8]) -> Result<PlanFile<'_>, Refusal>
         ensures answer { answer_with (λ file. 0) result ≡ plan_answer bytes.now }
         ensures file { IfOk result (λ file. file ≡ bytes.now) }
     {
-        let torus = check_trailer(bytes)?;
-        let trailer = file::trailer_of(bytes);
-        check_records(bytes, trailer, torus)?;
-        Ok(PlanFile { bytes, trailer })
+        plan_answer(bytes)?;
+        Ok(PlanFile {
+            bytes,
+            trailer: file::trailer_of(bytes),
+        })
     }
 
     // Start, count, Sx and Sy.
@@ -155,14 +165,6 @@ impl PlanFile<'_> {
         let start = self.trailer.start as usize;
         file::flow_from(self.bytes, start + file::RECORD_SIZE * (f as usize))
     }
-}
-
-// Reading a plan file: nothing, or the refusal with its place.
-pub fn plan_answer(file: &[u8]) -> Result<(), Refusal>
-    ensures { told result ≡ plan_answer file.now }
-{
-    PlanFile::open(file)?;
-    Ok(())
 }
 
 // The notes of a plan file as the leading part of the file; on a refusal that part is empty.

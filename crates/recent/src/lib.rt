@@ -54,7 +54,7 @@ fn largest(a: [u32; MOST_KEPT], n: usize) -> u32
     requires { n ≤ most_kept }
     ensures { result ≡ largest (take n a) }
 {
-    a[..n].iter().copied().max().unwrap_or(0)
+    a[..n].iter().fold(0, |most, &x| most.max(x))
 }
 
 // A flow's record after a delivery with this flight and D.

@@ -1,17 +1,14 @@
--- `largest`: the library's largest of the entries, 0 of none.
-use mathlib.Core.Path.{◌≡◌, sym, ◌∙◌}
+-- `largest`: the entries one by one, the larger each time, from 0 on.
+use mathlib.Core.Path.{◌∙◌}
 use Prim.Native.Nat.{max}
 use lib.ListN.{take}
+use Rattle.std.proofs.Common.{rules}
 use Rattle.std.proofs.lemmas.Iterator.{YieldsList-from_slice}
-use Rattle.std.proofs.lemmas.Iterator.Consumers.{max_from_yields_List, YieldsList-from_copied}
-use Rattle.std.proofs.lemmas.Iterator.Adapters.{option_map_id}
-use Rattle.std.specs.List.{reduce}
-use Rattle.recent.proofs.Kept.{largest_max}
+use Rattle.std.proofs.lemmas.Iterator.Consumers.{fold_from_yields_List}
+use Rattle.recent.proofs.Kept.{largest_fold}
 use Rattle.recent.proofs.largest.Goals as goal
 
 pub returns : goal.returns
 returns c =
     let l = take c.args.n c.args.a in
-    let most : c.max.result ≡ reduce max l =
-    sym (option_map_id _) ∙ max_from_yields_List c.copied.result _ c.max.ensures.ran (YieldsList-from_copied (YieldsList-from_slice l cc)) in
-    rw (c.unwrap_or.ensures, most) (largest_max l)
+    fold_from_yields_List _ max 0 _ c.fold.ensures.ran (YieldsList-from_slice l cc) (λ most x larger f k. search rules) ∙ largest_fold l
