@@ -1,10 +1,9 @@
 -- The bytes of a record and of a trailer, four by four. Rests on plan's bytes and the laws of stores.
-use mathlib.Core.List.{List, [], ◌∷◌, ◌++◌}
+use mathlib.Core.List.{List, [], ◌∷◌, ◌++◌, map}
 use mathlib.Core.Path.{◌≡◌, ap, ◌∙◌}
 use Prim.Native.Nat.{ℕ, ◌+◌, ◌/◌, ◌%◌, ◌<◌}
 use native.Mathlib.Nat.{mod-eq_of_lt}
 use native.Mathlib.Omega.{arith}
-use lib.ListN.{get_or}
 use lib.Seq.{sets}
 use Rattle.std.proofs.Common.{w32}
 use Rattle.std.specs.Int.{to_le_bytes}
@@ -15,17 +14,26 @@ use Rattle.flow.specs.Ranges.{FlowOk}
 use Rattle.file.specs.Layout.{tag}
 use Rattle.file.specs.Bytes.{third_byte, two_bytes, four_bytes}
 use Rattle.plan.specs.Written.{record_bytes}
+use Rattle.writing.specs.Parts.{low_byte}
 
 byte : (n : ℕ) → n < 256 → n % 256 ≡ n
 byte n h = mod-eq_of_lt {n = n} {m = 256} h
 
--- the bytes of a record, and of a start, from the low bytes of numbers
+-- the bytes of a record are the low ones of its numbers
 pub record_is : (f : Flow) → FlowOk most_size most_size f
-    → f.xs ∷ f.ys ∷ f.xd ∷ f.yd ∷ get_or (to_le_bytes w32 f.period) 0 0 ∷ get_or (to_le_bytes w32 f.period) 1 0 ∷ f.burst ∷ get_or (to_le_bytes w32 f.period) 2 0 ∷ []
-    ≡ record_bytes f
+    → map low_byte (f.xs ∷ f.ys ∷ f.xd ∷ f.yd ∷ f.period ∷ f.period / 256 ∷ f.burst ∷ f.period / third_byte ∷ []) ≡ record_bytes f
 unfolding record_bytes two_bytes
-record_is f ok = rw (byte (f.period / third_byte) (omega (arith, ok.period_most)))
+record_is f ok =
+    rw (
+      byte f.xs (omega (arith, ok.xs_on)),
+      byte f.ys (omega (arith, ok.ys_on)),
+      byte f.xd (omega (arith, ok.xd_on)),
+      byte f.yd (omega (arith, ok.yd_on)),
+      byte f.burst (omega (arith, ok.burst_most)),
+      byte (f.period / third_byte) (omega (arith, ok.period_most)),
+    )
 
+-- the bytes of a start
 pub start_is : (n : ℕ) → to_le_bytes w32 n ≡ four_bytes n
 unfolding four_bytes two_bytes
 start_is n =

@@ -1,11 +1,15 @@
 -- The parts of the file that is written from a state. Only promises of inner functions name these; proofs/ ties them to plan_bytes.
-use Rattle.std.specs.Prelude.{List, [], ◌∷◌, ◌++◌, ℕ, ◌+◌, ◌*◌, length}
+use Rattle.std.specs.Prelude.{List, [], ◌∷◌, ◌++◌, ℕ, ◌+◌, ◌*◌, ◌%◌, length}
 use Rattle.laws.specs.Count.{join_below}
 use Rattle.file.specs.Layout.{record_size, trailer_size, tag}
 use Rattle.file.specs.Bytes.{two_bytes, four_bytes}
 use Rattle.plan.specs.Written.{record_bytes}
 use Rattle.state.specs.Layout.{flow_place}
 use Rattle.state.specs.Read.{count_in, flow_in}
+
+-- the byte that a number's low bits are
+abbrev pub low_byte : ℕ → ℕ
+low_byte n = n % 256
 
 -- the records of the first `count` flows of the state with words w
 abbrev pub records_in : (w : List ℕ) → (count : ℕ) → List ℕ

@@ -1,7 +1,7 @@
 // Writing: a plan file from a state and lent notes. Rests on plan, state and valid.
 #![tactic(auto)]
 
-ghost use Rattle.std.specs.Prelude.{[], ◌∷◌, ◌++◌, ◌≡◌, ◌+◌, ◌*◌, ◌≤◌, length};
+ghost use Rattle.std.specs.Prelude.{[], ◌∷◌, ◌++◌, ◌≡◌, ◌+◌, ◌*◌, ◌≤◌, length, map};
 ghost use Rattle.std.proofs.lemmas.List.Edits.{sets};
 ghost use Rattle.refusal.specs.Answer.{told_value};
 ghost use Rattle.flow.specs.Plan.{most_size};
@@ -12,7 +12,7 @@ ghost use Rattle.plan.specs.Written.{record_bytes, plan_bytes};
 ghost use Rattle.state.specs.Read.{count_in, plan_in};
 ghost use Rattle.state.specs.Outcome.{outcome, over};
 ghost use Rattle.state.specs.Writing.{bytes_on, write_on};
-ghost use Rattle.writing.specs.Parts.{records_in, trailer_from, file_size};
+ghost use Rattle.writing.specs.Parts.{low_byte, records_in, trailer_from, file_size};
 
 use flow::{Flow, Torus};
 use refusal::{Cause, Refusal};
@@ -31,21 +31,30 @@ fn put(target: &mut [u8], at: usize, bytes: &[u8])
     }
 }
 
-// The record of a flow.
-fn record_bytes(f: Flow) -> [u8; 8]
-    requires { FlowOk most_size most_size f }
-    ensures { result ≡ record_bytes f }
+// Writes the low bytes of numbers at a place.
+fn put_low(target: &mut [u8], at: usize, numbers: [u32; file::RECORD_SIZE])
+    requires { at + record_size ≤ length target.old }
+    ensures { target.new ≡ sets target.old at (map low_byte numbers) }
 {
-    let p = f.period.to_le_bytes();
+    for (i, &number) in numbers.iter().enumerate() {
+        target[at + i] = (number % 256) as u8;
+    }
+}
+
+// The record of a flow, a number for each byte.
+fn record_of(f: Flow) -> [u32; file::RECORD_SIZE]
+    requires { FlowOk most_size most_size f }
+    ensures { map low_byte result ≡ record_bytes f }
+{
     [
-        f.xs as u8,
-        f.ys as u8,
-        f.xd as u8,
-        f.yd as u8,
-        p[0],
-        p[1],
-        f.burst as u8,
-        p[2],
+        f.xs,
+        f.ys,
+        f.xd,
+        f.yd,
+        f.period,
+        f.period >> 8,
+        f.burst,
+        f.period >> 16,
     ]
 }
 
@@ -56,7 +65,7 @@ fn put_records(state: &StateWords, target: &mut [u8], start: usize)
 {
     for f in 0..state.flows() {
         let at = start + file::RECORD_SIZE * (f as usize);
-        put(target, at, &record_bytes(state.flow(f)));
+        put_low(target, at, record_of(state.flow(f)));
     }
 }
 
