@@ -42,7 +42,7 @@ impl Meeting {
             return passes.then_some(0);
         }
         let on_way = torus::on_way(self.torus.sy, self.other.ys, self.own.ys, self.other.yd);
-        // One test tells both: a word of 0 has no row.
+        // Off the way the word is 0, which has no row: one test tells both.
         let word = if on_way { self.word } else { 0 };
         if turning::has_row(word, self.own.ys) {
             Some(self.laps(rows - 1))

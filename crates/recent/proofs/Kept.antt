@@ -1,11 +1,12 @@
 -- Laws of kept entries: laid out one by one, the last of them, and the largest. Rests on specs/Recent.
 use mathlib.Core.List.{List, [], ◌∷◌, ◌++◌, append_assoc}
-use mathlib.Core.Path.{◌≡◌, sym}
+use mathlib.Core.Path.{◌≡◌, refl, sym}
 use Prim.Native.Nat.{ℕ, suc, ◌+◌, ◌-◌, ◌≤◌, ◌<◌, max}
 use native.Mathlib.Omega.{arith}
 use lib.ListN.{length, set, take, drop, replicate, length-append, length-drop}
 use lib.Seq.{length-take-le, take-add, take_at, drop-append-le, drop_at, set_at}
-use Rattle.std.specs.List.{fold}
+use Rattle.std.specs.List.{fold, reduce}
+use Rattle.std.specs.Option.{unwrap_or}
 use Rattle.std.proofs.lemmas.List.{drop-replicate}
 use Rattle.recent.specs.Recent.{most_kept, largest, laid_out, one_more}
 
@@ -46,9 +47,15 @@ unfolding largest
 largest_from b [] = omega arith
 largest_from b (x ∷ l) = omega (arith, largest_from (max b x) l)
 
--- the largest, from 0 on
+-- the larger of two each time, from 0 on, is the largest
 pub largest_fold : (l : List ℕ) → fold max 0 l ≡ largest l
 largest_fold l = omega (arith, largest_from 0 l)
+
+-- so is what the library's `max` finds
+pub largest_max : (l : List ℕ) → unwrap_or (reduce max l) 0 ≡ largest l
+unfolding largest
+largest_max [] = refl
+largest_max (x ∷ l) = largest_from x l
 
 -- the kept ones among what is laid out
 pub kept_laid : (l : List ℕ) (n : ℕ) → length l ≡ n → take n (laid_out l) ≡ l

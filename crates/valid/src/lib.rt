@@ -86,7 +86,9 @@ fn read_flows<'a>(w: &'a [u32], dxs: &'a mut [u8]) -> Option<FlowWords<'a>>
     Some(FlowWords::of(w, dxs))
 }
 
-// The words behind the header are those of a state.
+// The words behind the header are those of a state. Its loops are a function of their own (`inline(never)`): among the refusals of
+// `check_state` they have too few registers, and keep a column's number in memory.
+#[inline(never)]
 #[tactic(auto, unfolding(state::specs::Forms::rest_fits))]
 fn rest_fits(w: &[u32]) -> bool
     requires { Headed w.now }

@@ -1,4 +1,4 @@
--- The bytes of a record and of a trailer, four by four. Rests on plan's bytes and the laws of stores.
+-- The bytes of a record and of a trailer, from the numbers that are written. Rests on specs/Parts, plan's bytes and the laws of stores.
 use mathlib.Core.List.{List, [], ◌∷◌, ◌++◌, map}
 use mathlib.Core.Path.{◌≡◌, ap, ◌∙◌}
 use Prim.Native.Nat.{ℕ, ◌+◌, ◌/◌, ◌%◌, ◌<◌}

@@ -7,7 +7,7 @@ use Rattle.plan.specs.Written.{record_bytes}
 use Rattle.state.specs.Layout.{flow_place}
 use Rattle.state.specs.Read.{count_in, flow_in}
 
--- the byte that a number's low bits are
+-- a number's low byte
 abbrev pub low_byte : ℕ → ℕ
 low_byte n = n % 256
 

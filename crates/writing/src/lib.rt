@@ -31,7 +31,7 @@ fn put(target: &mut [u8], at: usize, bytes: &[u8])
     }
 }
 
-// Writes the low bytes of numbers at a place.
+// Writes the low byte of each number at a place. What `put` would copy from an array of bytes is built first, which takes longer.
 fn put_low(target: &mut [u8], at: usize, numbers: [u32; file::RECORD_SIZE])
     requires { at + record_size ≤ length target.old }
     ensures { target.new ≡ sets target.old at (map low_byte numbers) }
@@ -41,8 +41,8 @@ fn put_low(target: &mut [u8], at: usize, numbers: [u32; file::RECORD_SIZE])
     }
 }
 
-// The record of a flow, a number for each byte.
-fn record_of(f: Flow) -> [u32; file::RECORD_SIZE]
+// A number for each byte of a flow's record, which is its low one.
+fn record_numbers(f: Flow) -> [u32; file::RECORD_SIZE]
     requires { FlowOk most_size most_size f }
     ensures { map low_byte result ≡ record_bytes f }
 {
@@ -65,7 +65,7 @@ fn put_records(state: &StateWords, target: &mut [u8], start: usize)
 {
     for f in 0..state.flows() {
         let at = start + file::RECORD_SIZE * (f as usize);
-        put_low(target, at, record_of(state.flow(f)));
+        put_low(target, at, record_numbers(state.flow(f)));
     }
 }
 

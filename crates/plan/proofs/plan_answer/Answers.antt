@@ -17,15 +17,10 @@ frame c = trailed _ (sym c.in_ok-torus.ensures.number)
 pub trailer_of-trailer-requires : goal.trailer_of-trailer-requires
 trailer_of-trailer-requires c = (frame c).long
 
-pub check_records-requires-clause-count_in_bounds : goal.check_records-requires-clause-count_in_bounds
-check_records-requires-clause-count_in_bounds c =
-    let t = frame (goal.at.check_records-requires-clause-count_in_bounds c).In_ok-torus in
-    rw c.trailer_of-trailer.ensures (omega (arith, t.frame.ends))
-
-pub check_records-requires-clause-count_le_most_flows : goal.check_records-requires-clause-count_le_most_flows
-check_records-requires-clause-count_le_most_flows c =
-    let t = frame (goal.at.check_records-requires-clause-count_le_most_flows c).In_ok-torus in
-    rw c.trailer_of-trailer.ensures t.frame.count_most
+pub check_records-requires : goal.check_records-requires
+check_records-requires c =
+    let t = frame (goal.at.check_records-requires c).In_ok-torus in
+    rw c.trailer_of-trailer.ensures (record { torus = c.in_ok-torus.ensures.torus; count_in_bounds = omega (arith, t.frame.ends); count_le_most_flows = t.frame.count_most })
 
 pub returns : goal.returns
 returns c = rw (answer_by_records _ (sym c.in_ok-torus.ensures.number), ← c.trailer_of-trailer.ensures) c.check_records.ensures

@@ -20,9 +20,9 @@ below c = omega arith
 flow : (c : goal.After-flow) → c.flow.result ≡ flow_in c.args.state.now (flow_place c.loop-f.f)
 flow c = c.flow.ensures.value ∙ rw view_plan (view_flow c.args.state.now c.loop-f.f (below c))
 
-pub record_of-requires : goal.record_of-requires
-record_of-requires c =
-    let here = (goal.at.record_of-requires c).After-flow in
+pub record_numbers-requires : goal.record_numbers-requires
+record_numbers-requires c =
+    let here = (goal.at.record_numbers-requires c).After-flow in
     rw (flow here) (small_flow c.args.state.now c.flow.ensures.facts c.loop-f.f (below here))
 
 pub loop-f-init : goal.loop-f-init
@@ -34,7 +34,7 @@ loop-f-preserved c =
     let a = c.args in
     let bytes : ℕ → List ℕ = λ f. record_bytes (flow_in a.state.now (flow_place f)) in
     let more = sets_more record_size l.f bytes (λ i. record_length _) a.target.now l.target a.start l.invariant.1 in
-    (c.put_low.auto.target ∙ l.invariant.0, rw (c.put_low.ensures, c.record_of.ensures, flow (goal.at.loop-f-preserved c).After-flow) more)
+    (c.put_low.auto.target ∙ l.invariant.0, rw (c.put_low.ensures, c.record_numbers.ensures, flow (goal.at.loop-f-preserved c).After-flow) more)
 
 pub returns : goal.returns
 returns c =

@@ -1,3 +1,4 @@
+-- `put_records`: the records so far.
 use mathlib.Core.Path.{◌≡◌}
 use lib.ListN.{length}
 use lib.Seq.{sets}
