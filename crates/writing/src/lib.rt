@@ -31,7 +31,7 @@ fn put(target: &mut [u8], at: usize, bytes: &[u8])
     }
 }
 
-// Writes the low byte of each number at a place. What `put` would copy from an array of bytes is built first, which takes longer.
+// Writes the low byte of each number at a place. A record as an array of bytes is put together in one word first, which takes longer.
 fn put_low(target: &mut [u8], at: usize, numbers: [u32; file::RECORD_SIZE])
     requires { at + record_size ≤ length target.old }
     ensures { target.new ≡ sets target.old at (map low_byte numbers) }

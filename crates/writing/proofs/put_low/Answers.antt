@@ -14,7 +14,6 @@ loop-i-preserved c =
     let l = c.loop-i in
     let numbers = c.args.numbers in
     let bytes = map low_byte numbers in
-    let below : l.i < length bytes = omega (arith, length-map numbers low_byte) in (
-      rw length-set l.invariant.0,
-      rw (get_or-map low_byte numbers l.i 0 0 (omega arith)) at ((wrote_more bytes l.i below (record { place = rw (length-take-le l.i bytes (omega arith)); memory = l.invariant.1 })).memory),
-    )
+    let below : l.i < length bytes = omega (arith, length-map numbers low_byte) in
+    let more = wrote_more bytes l.i below (record { place = rw (length-take-le l.i bytes (omega arith)); memory = l.invariant.1 }) in
+    (rw length-set l.invariant.0, rw (get_or-map low_byte numbers l.i 0 0 (omega arith)) at more.memory)
